@@ -1,0 +1,4 @@
+pub mod Listing
+pub mod Locals
+pub mod Valid
+pub mod Value

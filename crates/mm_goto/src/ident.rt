@@ -1,0 +1,58 @@
+ghost use Rattle.std.specs.Prelude.{◌≡◌, IfOk};
+
+use std::alloc::{AllocError, AllocFailed, Global};
+use std::marker::Model;
+
+/// There was no memory for what was asked.
+#[derive(Clone, Copy, Debug, PartialEq, Eq)]
+pub struct NoMemory;
+
+impl From<AllocError> for NoMemory {
+    fn from(_: AllocError) -> NoMemory {
+        NoMemory
+    }
+}
+
+impl<T: Drop> From<AllocFailed<T>> for NoMemory {
+    fn from(_: AllocFailed<T>) -> NoMemory {
+        NoMemory
+    }
+}
+
+/// A place in a text. Lines and columns count from 1, a line ends at a newline byte, and a column counts characters.
+#[derive(Clone, Copy, Debug, PartialEq, Eq)]
+pub struct At {
+    pub line: u32,
+    pub column: u32,
+}
+
+/// A text, such as a name.
+#[derive(Debug, Drop)]
+pub struct Ident {
+    text: String,
+}
+
+impl Model for Ident {
+    ghost use Rattle.std.specs.Prelude.{List, ℕ, string_bytes};
+
+    ghost Value = { List ℕ };
+
+    ghost view = { λ ident. string_bytes ident.text };
+}
+
+impl Ident {
+    /// A text of its own with the same bytes.
+    pub fn copy_of(alloc: Global, text: &str) -> Result<Ident, NoMemory>
+        ensures { IfOk result (λ ident. ident ≡ text.now) }
+    {
+        let text = String::from_str(alloc, text)?;
+        Ok(Ident { text })
+    }
+
+    /// The text.
+    pub fn text(&self) -> &str
+        ensures { result.now ≡ self.now }
+    {
+        self.text.as_str()
+    }
+}
