@@ -1,5 +1,5 @@
 -- A source and a sink over memory, which fail at the calls that a list names.
-use Rattle.std.specs.Prelude.{ℕ, ◌+◌, ◌-◌, ◌^◌, List, min}
+use Rattle.std.specs.Prelude.{ℕ, List}
 
 -- a source: the bytes that are left, how many it gives at most in one call, the calls that fail,
 -- and how many calls and faults there were, both up to 2^64 - 1
@@ -19,7 +19,3 @@ pub record Writing : Type 0 where
   pub fails : List ℕ
   pub calls : ℕ
   pub faults : ℕ
-
--- one more, up to the greatest number of 64 bits
-abbrev pub one_more : ℕ → ℕ
-one_more n = min (n + 1) (2 ^ 64 - 1)

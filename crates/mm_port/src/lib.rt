@@ -4,6 +4,8 @@
 mod memory;
 mod port;
 mod std_port;
+#[cfg(test)]
+mod tests;
 
 pub use memory::{MemSink, MemSource};
 pub use port::{Failed, NoMemory, Sink, Source};

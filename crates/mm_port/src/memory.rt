@@ -1,10 +1,9 @@
 ghost use Rattle.std.specs.Prelude.{◌≡◌, ◌+◌, ◌-◌, ◌≤◌, ◌<◌, ◌↔◌, ◌⊎◌, [], ◌++◌, List, ℕ, length, take, drop, min, Contains, IsErr, IfOk, OnOk, OnErr, Some};
 ghost use Rattle.std.specs.Io.{ReadsAtMost};
 ghost use Rattle.std.specs.Io.KnownBytes.{ReadConsumes, WriteAppends};
-ghost use Rattle.mm_port.specs.Port.{HasCause, TakesSome};
-ghost use Rattle.mm_port.specs.Memory.{one_more};
+ghost use Rattle.mm_port.specs.Port.{HasCause, TakesSome, one_more};
 
-use crate::port::{Failed, NoMemory, Sink, Source};
+use crate::port::{Failed, NoMemory, Sink, Source, count_fault};
 use std::alloc::Global;
 use std::marker::Model;
 
@@ -81,8 +80,7 @@ impl Source for MemSource {
     {
         self.calls = self.calls.saturating_add(1);
         if self.fails.contains(&self.calls) {
-            self.faults = self.faults.saturating_add(1);
-            return Err(Failed);
+            return Err(count_fault(&mut self.faults));
         }
         let count = copy_front(&self.bytes[self.at..], self.piece, out);
         self.at += count;
@@ -172,8 +170,7 @@ impl Sink for MemSink {
         self.calls = self.calls.saturating_add(1);
         let left = self.room - self.taken.len();
         if left == 0 || self.fails.contains(&self.calls) {
-            self.faults = self.faults.saturating_add(1);
-            return Err(Failed);
+            return Err(count_fault(&mut self.faults));
         }
         let count = self.piece.min(piece.len()).min(left);
         self.taken.extend_from_slice(&piece[..count]).unwrap();

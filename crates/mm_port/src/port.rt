@@ -2,7 +2,7 @@ ghost use Rattle.std.specs.Prelude.{◌≡◌, ◌≤◌, ◌<◌, List, ℕ, le
 ghost use Rattle.std.specs.declared.option.Option.{Option};
 ghost use Rattle.std.specs.Io.{ReadsAtMost};
 ghost use Rattle.std.specs.Io.KnownBytes.{ReadConsumes, WriteAppends};
-ghost use Rattle.mm_port.specs.Port.{HasCause, TakesSome};
+ghost use Rattle.mm_port.specs.Port.{HasCause, TakesSome, one_more};
 
 /// A read or a write that failed.
 #[derive(Clone, Copy, Debug, PartialEq, Eq)]
@@ -41,4 +41,13 @@ pub trait Sink {
         ensures bound { TakesSome result piece.now }
         ensures bytes { WriteAppends (taken self.old) (taken self.new) result piece.now }
         ensures cause { HasCause (faults self.old) (faults self.new) result };
+}
+
+/// Counts a fault.
+pub(crate) fn count_fault(faults: &mut u64) -> Failed
+    ensures count { faults.new ≡ one_more faults.old }
+    ensures later { faults.old ≤ faults.new }
+{
+    *faults = faults.saturating_add(1);
+    Failed
 }

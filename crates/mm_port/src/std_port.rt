@@ -1,7 +1,7 @@
 ghost use Rattle.std.specs.Prelude.{◌≡◌};
 ghost use Rattle.mm_port.specs.Std.{reader_of, read_faults, writer_of, write_faults};
 
-use crate::port::{Failed, Sink, Source};
+use crate::port::{Failed, Sink, Source, count_fault};
 use std::io::{Read, Write};
 
 /// A source over a reader of std. Each error of the reader is a fault.
@@ -29,10 +29,7 @@ impl<R: Read> Source for StdSource<R> {
     fn read(&mut self, out: &mut [u8]) -> Result<usize, Failed> {
         match self.inner.read(out) {
             Ok(count) => Ok(count),
-            Err(_) => {
-                self.faults = self.faults.saturating_add(1);
-                Err(Failed)
-            }
+            Err(_) => Err(count_fault(&mut self.faults)),
         }
     }
 }
@@ -62,10 +59,7 @@ impl<W: Write> Sink for StdSink<W> {
     fn write(&mut self, piece: &[u8]) -> Result<usize, Failed> {
         match self.inner.write(piece) {
             Ok(count) if count > 0 => Ok(count),
-            _ => {
-                self.faults = self.faults.saturating_add(1);
-                Err(Failed)
-            }
+            _ => Err(count_fault(&mut self.faults)),
         }
     }
 }
