@@ -1,4 +1,5 @@
 pub mod Listing
 pub mod Locals
+pub mod Terms
 pub mod Valid
 pub mod Value

@@ -1,0 +1,8 @@
+use mm_goto::{Bound, Model};
+
+/// What the words of the command line ask for.
+#[derive(Clone, Copy, Debug, PartialEq, Eq)]
+pub enum Settings {
+    /// The woven program of a source, for a model and a bound.
+    Instrument(Model, Bound),
+}
