@@ -1,10 +1,16 @@
 //! The top call: from the words of the command line and an input to a status and an output.
 #![tactic(auto)]
 
+mod answer;
 mod command;
+mod input;
+mod output;
 mod status;
+mod top;
 mod words;
 
 pub use command::Settings;
+pub use input::MAX_INPUT;
 pub use status::Status;
+pub use top::run;
 pub use words::settings;

@@ -1,0 +1,7 @@
+//! The worked examples, from the words and the bytes that go in to the status and the bytes that come out.
+#![tactic(auto)]
+
+#[cfg(test)]
+mod instrument;
+#[cfg(test)]
+mod outside;

@@ -1,0 +1,73 @@
+-- What the tool answers for the words of a command and an input.
+use Rattle.std.specs.Prelude.{◌≡◌, ℕ, List, codes, Option}
+use Rattle.std.specs.Io.KnownBytes.{Appends}
+use Rattle.mm_goto.specs.Listing.{Listing}
+use Rattle.mm_parse.specs.SmallProgram.{IsSmallProgram}
+use Rattle.mm_print.specs.SmallText.{small_text}
+use Rattle.mm_run.specs.declared.command.Settings.{Settings}
+use Rattle.mm_run.specs.declared.command.Settings.TheVariants.{Instrument}
+use Rattle.mm_run.specs.declared.status.Status.{Status}
+use Rattle.mm_run.specs.declared.status.Status.TheVariants.{Done, Words, ReadFault, TooLong, Refused, BadSchedule, Stuck, NotFailing, WriteFault, NoMemory}
+use Rattle.mm_run.specs.Input.{IsWhole, IsTooLong}
+use Rattle.mm_run.specs.Output.{AppendsPart}
+
+-- the program of the input is woven for the bound, and its text is the output
+pub record IsWoven (input : List ℕ) (bound : ℕ) (out : List ℕ) : Type 0 where
+  pub program : Listing
+  pub small : IsSmallProgram input program
+  pub text : out ≡ small_text program bound
+
+-- the input is no small program
+abbrev pub IsNotBuilt : List ℕ → Type 0
+IsNotBuilt input = (p : Listing) → IsSmallProgram input p → ⊥
+
+-- the status and the output for an input of at most the greatest length
+abbrev pub AnswersWhole : Settings → List ℕ → Status → List ℕ → Type 0
+AnswersWhole (Instrument m bound) input Done out = IsWoven input bound out
+AnswersWhole (Instrument m bound) input Refused out = IsNotBuilt input × (out ≡ codes "refused: 1:1 not built\n")
+AnswersWhole (Instrument m bound) input Words out = ⊥
+AnswersWhole (Instrument m bound) input ReadFault out = ⊥
+AnswersWhole (Instrument m bound) input TooLong out = ⊥
+AnswersWhole (Instrument m bound) input BadSchedule out = ⊥
+AnswersWhole (Instrument m bound) input Stuck out = ⊥
+AnswersWhole (Instrument m bound) input NotFailing out = ⊥
+AnswersWhole (Instrument m bound) input WriteFault out = ⊥
+AnswersWhole (Instrument m bound) input NoMemory out = ⊥
+
+-- what is read, and the status and the output for it
+pub data Responds (s : Settings) (old new : Option (List ℕ)) : Status → List ℕ → Type 0 where
+  whole : {status : Status} {out : List ℕ} (bytes : List ℕ) → IsWhole old new bytes → AnswersWhole s bytes status out → Responds s old new status out
+  too_long : IsTooLong old new → Responds s old new TooLong (codes "too long\n")
+
+-- the output was written whole
+pub record Writes (s : Settings) (old new taken now : Option (List ℕ)) (status : Status) : Type 0 where
+  pub out : List ℕ
+  pub responds : Responds s old new status out
+  pub written : Appends taken now out
+
+-- a write failed, and the output lacks its end
+pub record BreaksOff (s : Settings) (old new taken now : Option (List ℕ)) : Type 0 where
+  pub status : Status
+  pub out : List ℕ
+  pub responds : Responds s old new status out
+  pub written : AppendsPart taken now out
+
+-- how a command ends, by what is left of the input and what is taken of the output
+abbrev pub Ends : Settings → Option (List ℕ) → Option (List ℕ) → Option (List ℕ) → Option (List ℕ) → Status → Type 0
+Ends s old new taken now Done = Writes s old new taken now Done
+Ends s old new taken now TooLong = Writes s old new taken now TooLong
+Ends s old new taken now Refused = Writes s old new taken now Refused
+Ends s old new taken now WriteFault = BreaksOff s old new taken now
+Ends s old new taken now ReadFault = Unit {0}
+Ends s old new taken now NoMemory = Unit {0}
+Ends s old new taken now Words = ⊥
+Ends s old new taken now BadSchedule = ⊥
+Ends s old new taken now Stuck = ⊥
+Ends s old new taken now NotFailing = ⊥
+
+-- nothing is written where the words are no command, a read failed or memory was wanting
+abbrev pub WritesNothing : Status → Type 0
+WritesNothing Words = Unit {0}
+WritesNothing ReadFault = Unit {0}
+WritesNothing NoMemory = Unit {0}
+WritesNothing _ = ⊥

@@ -1,0 +1,47 @@
+ghost use Rattle.std.specs.Prelude.{◌≡◌, ◌≤◌, length, codes, IfOk, string_bytes};
+ghost use Rattle.mm_run.specs.Answer.{AnswersWhole};
+
+use crate::command::Settings;
+use crate::input::MAX_INPUT;
+use crate::status::Status;
+use mm_goto::NoMemory;
+use mm_parse::{SmallFault, parse_small};
+use mm_print::print_small;
+use std::alloc::Global;
+
+/// A status, and the output that goes with it.
+#[derive(Drop)]
+pub struct Answer {
+    pub status: Status,
+    pub output: String,
+}
+
+/// The answer to an input.
+pub fn answer_whole(alloc: Global, settings: Settings, input: &[u8]) -> Result<Answer, NoMemory>
+    requires { length input.now ≤ MAX_INPUT }
+    ensures { IfOk result (λ answer. AnswersWhole settings input.now answer.status (string_bytes answer.output)) }
+{
+    let Settings::Instrument(_, bound) = settings;
+    match parse_small(alloc, input) {
+        Ok(program) => Ok(Answer {
+            status: Status::Done,
+            output: print_small(alloc, &program, bound)?,
+        }),
+        Err(SmallFault::NotBuilt) => Ok(Answer {
+            status: Status::Refused,
+            output: String::from_str(alloc, "refused: 1:1 not built\n")?,
+        }),
+        Err(SmallFault::NoMemory) => Err(NoMemory),
+    }
+}
+
+/// The answer to an input that is too long.
+pub fn answer_too_long(alloc: Global) -> Result<Answer, NoMemory>
+    ensures status { IfOk result (λ answer. answer.status ≡ Status.TooLong) }
+    ensures output { IfOk result (λ answer. string_bytes answer.output ≡ codes "too long\n") }
+{
+    Ok(Answer {
+        status: Status::TooLong,
+        output: String::from_str(alloc, "too long\n")?,
+    })
+}
