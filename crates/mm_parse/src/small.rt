@@ -1,6 +1,7 @@
 //! Small programs: main alone, with global ints that are assigned and asserted.
 ghost use Rattle.std.specs.Prelude.{◌≡◌, ◌≤◌, length, IfOk, IsErrOf};
 ghost use Rattle.mm_goto.specs.Listing.{Listing};
+ghost use Rattle.mm_goto.specs.Valid.{IsValid};
 ghost use Rattle.mm_parse.specs.declared.small.SmallFault.TheVariants.{NoMemory as MemoryFault};
 ghost use Rattle.mm_parse.specs.SmallProgram.{IsSmallProgram};
 
@@ -38,6 +39,7 @@ impl From<NoMemory> for SmallFault {
 pub fn parse_small(alloc: Global, text: &[u8]) -> Result<Program, SmallFault>
     requires { length text.now ≤ 16777216 }
     ensures program { IfOk result (λ program. IsSmallProgram text.now program) }
+    ensures valid { IfOk result IsValid }
     ensures only { IfOk result (λ program. (p : Listing) → IsSmallProgram text.now p → p ≡ program) }
     ensures not_built { IsErrOf result SmallFault.NotBuilt → (p : Listing) → IsSmallProgram text.now p → ⊥ }
 {

@@ -1,7 +1,10 @@
 -- What the tool answers for the words of a command and an input.
-use Rattle.std.specs.Prelude.{◌≡◌, ℕ, List, codes, Option}
+use Rattle.std.specs.Prelude.{◌≡◌, ◌↔◌, ℕ, List, codes, Option}
 use Rattle.std.specs.Io.KnownBytes.{Appends}
 use Rattle.mm_goto.specs.Listing.{Listing}
+use Rattle.mm_goto.specs.declared.model.Model.TheVariants.{Tso}
+use Rattle.mm_sched.specs.declared.entry.Rules.TheVariants.{Sc, Buffered}
+use Rattle.mm_sched.specs.Runs.{Reaches}
 use Rattle.mm_parse.specs.SmallProgram.{IsSmallProgram}
 use Rattle.mm_print.specs.SmallText.{small_text}
 use Rattle.mm_run.specs.declared.command.Settings.{Settings}
@@ -10,12 +13,18 @@ use Rattle.mm_run.specs.declared.status.Status.{Status}
 use Rattle.mm_run.specs.declared.status.Status.TheVariants.{Done, Words, ReadFault, TooLong, Refused, BadSchedule, Stuck, NotFailing, WriteFault, NoMemory}
 use Rattle.mm_run.specs.Input.{IsWhole, IsTooLong}
 use Rattle.mm_run.specs.Output.{AppendsPart}
+use Rattle.mm_run.specs.Woven.{woven}
 
--- the program of the input is woven for the bound, and its text is the output
+-- under sequential consistency q fails just the assertions that p fails with store buffers of this bound under TSO
+abbrev pub FailsAsBuffered : Listing → Listing → ℕ → Type 0
+FailsAsBuffered q p bound = (n : ℕ) → Reaches Sc q n ↔ Reaches (Buffered Tso bound) p n
+
+-- the program of the input is woven for the bound, its text is the output, and the woven program fails as it does
 pub record IsWoven (input : List ℕ) (bound : ℕ) (out : List ℕ) : Type 0 where
   pub program : Listing
   pub small : IsSmallProgram input program
   pub text : out ≡ small_text program bound
+  pub alike : FailsAsBuffered (woven program) program bound
 
 -- the input is no small program
 abbrev pub IsNotBuilt : List ℕ → Type 0
@@ -71,3 +80,11 @@ WritesNothing Words = Unit {0}
 WritesNothing ReadFault = Unit {0}
 WritesNothing NoMemory = Unit {0}
 WritesNothing _ = ⊥
+
+-- done, or kept from it by a fault or by want of memory
+abbrev pub IsDoneOrKept : Status → Type 0
+IsDoneOrKept Done = Unit {0}
+IsDoneOrKept ReadFault = Unit {0}
+IsDoneOrKept WriteFault = Unit {0}
+IsDoneOrKept NoMemory = Unit {0}
+IsDoneOrKept _ = ⊥

@@ -3,3 +3,4 @@ pub mod Input
 pub mod Output
 pub mod Settings
 pub mod Status
+pub mod Woven

@@ -1,11 +1,13 @@
-ghost use Rattle.std.specs.Prelude.{◌≡◌, ◌≢◌, ◌↔◌, map, string_bytes, IfOk, IfSome, None, IsErrOf, OnErr, OnOk};
+ghost use Rattle.std.specs.Prelude.{◌≡◌, ◌≢◌, ◌↔◌, ◌≤◌, length, map, string_bytes, IfOk, IfSome, None, IsErrOf, OnErr, OnOk};
 ghost use Rattle.mm_port.specs.Port.{Rose};
-ghost use Rattle.mm_run.specs.Answer.{Responds, Ends, WritesNothing};
+ghost use Rattle.mm_run.specs.Answer.{Responds, Ends, WritesNothing, IsDoneOrKept};
+ghost use Rattle.mm_goto.specs.Listing.{Listing};
+ghost use Rattle.mm_parse.specs.SmallProgram.{IsSmallProgram};
 ghost use Rattle.mm_run.specs.Settings.{settings_of};
 
 use crate::answer::{Answer, answer_too_long, answer_whole};
 use crate::command::Settings;
-use crate::input::{Input, InputFault, read_input};
+use crate::input::{Input, InputFault, MAX_INPUT, read_input};
 use crate::output::write_output;
 use crate::status::Status;
 use crate::words::settings;
@@ -45,6 +47,10 @@ pub fn run<I: Source, O: Sink>(
     // The status and what is written are those for what was read.
     ensures ends { IfSome (settings_of (map string_bytes words.now)) (λ s.
         Ends s (I.left input.old) (I.left input.new) (O.taken output.old) (O.taken output.new) result) }
+
+    // A small program is woven, but where a fault or want of memory keeps it from that.
+    ensures complete { IfSome (settings_of (map string_bytes words.now)) (λ s. IfSome (I.left input.old) (λ text.
+        (p : Listing) → IsSmallProgram text p → length text ≤ MAX_INPUT → IsDoneOrKept result)) }
 
     // A fault is told only where the input or the output failed.
     ensures read_fault { result ≡ Status.ReadFault → Rose (I.faults input.old) (I.faults input.new) }

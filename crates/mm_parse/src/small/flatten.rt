@@ -1,5 +1,6 @@
 ghost use Rattle.std.specs.Prelude.{◌≡◌, ◌+◌, ◌≤◌, ◌<◌, ◌^◌, ◌++◌, ◌∷◌, [], length, IfOk, OnOk, map, sum_by, ◌*◌, All};
 ghost use Rattle.mm_goto.specs.Terms.{constant, the_local};
+ghost use Rattle.mm_goto.specs.Valid.{IsValid};
 ghost use Rattle.mm_parse.specs.Flat.{reads, asserts, equals, statement_code, statement_places, body_code, body_places, main_of, cell, listing_of};
 ghost use Rattle.mm_parse.specs.Grammar.{IsWithinLimits, IsStatementIn};
 
@@ -172,7 +173,8 @@ fn cells_of(alloc: Global, names: &[Ident]) -> Result<Vec<Cell>, NoMemory>
 pub fn program_of(alloc: Global, small: &Small) -> Result<Program, NoMemory>
     requires within { IsWithinLimits small.now }
     requires numbers { All (IsStatementIn (length small.now.variables)) small.now.body }
-    ensures { IfOk result (λ program. program ≡ listing_of small.now) }
+    ensures listing { IfOk result (λ program. program ≡ listing_of small.now) }
+    ensures valid { IfOk result IsValid }
 {
     let cells = cells_of(alloc, small.variables.items())?;
     let mut threads = Vec::new(alloc);

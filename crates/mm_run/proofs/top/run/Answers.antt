@@ -1,0 +1,5 @@
+use Rattle.mm_run.proofs.Completing.{complete}
+use Rattle.mm_run.proofs.top.run.Goals as goal
+
+pub returns-in-Ok-write_output-clause-complete : goal.returns-in-Ok-write_output-clause-complete
+returns-in-Ok-write_output-clause-complete g c = complete _ _ _ c.in-Some.settings _ _ c.in-Ok.ensures.responds

@@ -1,0 +1,11 @@
+pub mod Adds
+pub mod Computing
+pub mod Drops
+pub mod Joins
+pub mod Laid
+pub mod Matched
+pub mod Parts
+pub mod Quiet
+pub mod Settled
+pub mod Steps
+pub mod Within
