@@ -1,4 +1,5 @@
-ghost use Rattle.std.specs.Prelude.{◌≡◌, IfOk};
+ghost use Rattle.std.specs.Prelude.{◌≡◌, ◌+◌, ◌<◌, ◌^◌, IfOk};
+ghost use Rattle.mm_goto.specs.Place.{start, past};
 
 use std::alloc::{AllocError, AllocFailed, Global};
 use std::marker::Model;
@@ -24,6 +25,36 @@ impl<T: Drop> From<AllocFailed<T>> for NoMemory {
 pub struct At {
     pub line: u32,
     pub column: u32,
+}
+
+impl At {
+    /// The first place of a text.
+    pub fn start() -> At
+        ensures { result ≡ start }
+    {
+        At { line: 1, column: 1 }
+    }
+
+    /// The place behind a byte of UTF-8 that stands here. Only the first byte of a character counts.
+    pub fn past(self, byte: u8) -> At
+        requires line { self.line + 1 < 2 ^ 32 }
+        requires column { self.column + 1 < 2 ^ 32 }
+        ensures { result ≡ past self byte }
+    {
+        if byte == b'\n' {
+            At {
+                line: self.line + 1,
+                column: 1,
+            }
+        } else if 128 <= byte && byte < 192 {
+            self
+        } else {
+            At {
+                line: self.line,
+                column: self.column + 1,
+            }
+        }
+    }
 }
 
 /// A text, such as a name.
