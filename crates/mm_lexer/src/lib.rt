@@ -1,0 +1,14 @@
+//! The tokens of a program's text.
+#![tactic(auto)]
+
+mod class;
+mod front;
+mod lexing;
+mod piece;
+mod place;
+#[cfg(test)]
+mod tests;
+mod token;
+
+pub use lexing::lex;
+pub use token::{LexFault, Token, TokenKind};

@@ -1,0 +1,172 @@
+//! Tokens of whole texts, and the first place at which none stands.
+ghost use Rattle.std.specs.Prelude.{◌≤◌, length, IfOk};
+
+use crate::{LexFault, Token, TokenKind, lex};
+use mm_goto::At;
+use std::test::Fail;
+
+const NAME: TokenKind = TokenKind::Name;
+
+const TEXT: TokenKind = TokenKind::Text;
+
+const MARK: TokenKind = TokenKind::Mark;
+
+fn number(value: i32) -> TokenKind {
+    TokenKind::Number(value)
+}
+
+fn lexed(rt: &impl AllocGlobal, text: &str) -> Result<Vec<Token>, LexFault> {
+    if text.len() > 16_777_216 {
+        return Err(LexFault::NoMemory);
+    }
+    lex(rt.alloc(), text)
+}
+
+#[test]
+fn cuts_tokens(rt: HostRuntime) {
+    let table: [(&str, &[TokenKind]); 22] = [
+        ("", &[]),
+        ("int x;", &[NAME, NAME, MARK]),
+        ("a\tb\r\nc", &[NAME, NAME, NAME]),
+        ("a//b*/\nc", &[NAME, NAME]),
+        ("a//b", &[NAME]),
+        ("a/*b\n\"#*/c/**/", &[NAME, NAME]),
+        ("#include <a>\nx", &[NAME]),
+        (" \t# \tinclude<\"@/*>\r\nx", &[NAME]),
+        ("#include_next <a>\n#includeX\n#include", &[]),
+        ("_a1 αβ2 é_", &[NAME, NAME, NAME]),
+        ("0 00 7 010", &[number(0), number(0), number(7), number(8)]),
+        ("0x1F 0XfF", &[number(31), number(255)]),
+        ("2147483647", &[number(i32::MAX)]),
+        (
+            "017777777777 0x7fffffff",
+            &[number(i32::MAX), number(i32::MAX)],
+        ),
+        ("1.5", &[number(1), MARK, number(5)]),
+        ("\"\" \"a b'!~#/*\"", &[TEXT, TEXT]),
+        ("a<<=b<<<=c", &[NAME, MARK, NAME, MARK, MARK, NAME]),
+        (">>=>>>=>", &[MARK, MARK, MARK, MARK]),
+        ("a+++b--->c", &[NAME, MARK, MARK, NAME, MARK, MARK, NAME]),
+        ("+= -= *= /= %= &= |= ^= != <= >=", &[MARK; 11]),
+        ("++ -- && || == << >> ->", &[MARK; 8]),
+        ("+ - * / % & | ^ ~ ! < > =?:;,()[]{}.", &[MARK; 24]),
+    ];
+    for (text, kinds) in table {
+        match lexed(&rt, text) {
+            Ok(tokens) => {
+                assert_eq!(rt; tokens.len(), kinds.len(), "{text}");
+                for (token, kind) in tokens.iter().zip(kinds) {
+                    assert_eq!(rt; token.kind, *kind, "{text}");
+                }
+            }
+            Err(fault) => panic!(rt; "{text}: {fault:?}"),
+        }
+    }
+}
+
+fn is_bad(rt: &impl AllocGlobal, text: &str, line: u32, column: u32) -> bool {
+    lexed(rt, text) == Err(LexFault::BadToken(At { line, column }))
+}
+
+#[test]
+fn refuses_what_is_no_token(rt: HostRuntime) {
+    let table = [
+        ("int x; /* cut", 1, 8),
+        ("/*/", 1, 1),
+        ("/*\n\n*/ @", 3, 4),
+        ("α β @", 1, 5),
+        ("a\r\n\t@", 2, 2),
+        ("//\n//\n$", 3, 1),
+        ("a \\", 1, 3),
+        ("'a'", 1, 1),
+        ("`", 1, 1),
+        ("\0", 1, 1),
+        ("\u{b}", 1, 1),
+        ("\u{c}", 1, 1),
+        ("\u{a0}", 1, 1),
+        ("\u{b7}a", 1, 1),
+        ("\u{feff}a", 1, 1),
+        (" \"abc", 1, 2),
+        ("\"a\\n\"", 1, 1),
+        ("\"a\nb\"", 1, 1),
+        ("\"é\"", 1, 1),
+        ("x=0x;", 1, 3),
+        ("08", 1, 1),
+        ("1x", 1, 1),
+        ("0x1g", 1, 1),
+        ("0b1", 1, 1),
+        ("99999999999_", 1, 1),
+        ("#define A", 1, 1),
+        ("  # inc", 1, 3),
+        ("x #include <a>", 1, 3),
+        ("/**/#include <a>", 1, 5),
+        ("/*\n*/ #include <a>", 2, 4),
+        ("\r#include <a>", 1, 2),
+    ];
+    for (text, line, column) in table {
+        assert!(rt; is_bad(&rt, text, line, column), "{text}");
+    }
+}
+
+#[test]
+fn refuses_large_numbers(rt: HostRuntime) {
+    let table = [
+        ("int x = 2147483648;", 9),
+        ("020000000000", 1),
+        ("0x80000000", 1),
+        ("1 99999999999999999999999999", 3),
+    ];
+    for (text, column) in table {
+        let fault = LexFault::NumberTooLarge(At { line: 1, column });
+        assert!(rt; lexed(&rt, text) == Err(fault), "{text}");
+    }
+}
+
+#[test]
+fn texts_have_up_to_200_characters(rt: HostRuntime) -> Result<(), Fail> {
+    let mut text = String::from_str(rt.alloc(), "\"")?;
+    for _ in 0..200 {
+        text.push('a')?;
+    }
+    let mut longer = text.clone()?;
+    text.push('"')?;
+    longer.push_str("a\"")?;
+    assert!(rt; lexed(&rt, text.as_str()).is_ok());
+    assert!(rt; is_bad(&rt, longer.as_str(), 1, 1));
+    Ok(())
+}
+
+#[test]
+fn tokens_have_their_places(rt: HostRuntime) {
+    let at = |line, column| At { line, column };
+    let want = [
+        Token {
+            kind: NAME,
+            start: 0,
+            end: 4,
+            at: at(1, 1),
+        },
+        Token {
+            kind: MARK,
+            start: 5,
+            end: 8,
+            at: at(1, 4),
+        },
+        Token {
+            kind: number(12),
+            start: 9,
+            end: 11,
+            at: at(1, 8),
+        },
+        Token {
+            kind: TEXT,
+            start: 13,
+            end: 16,
+            at: at(2, 2),
+        },
+    ];
+    match lexed(&rt, "αβ <<= 12\n \"x\"") {
+        Ok(tokens) => assert!(rt; tokens.as_slice() == want.as_slice()),
+        Err(fault) => panic!(rt; "{fault:?}"),
+    }
+}

@@ -1,0 +1,96 @@
+use crate::expr::{Expr, Word};
+use mm_goto::{At, Binary, Ident, List};
+use sqlite_items::{Boxed, Items};
+
+/// The left side of an assignment.
+#[derive(Debug, Drop)]
+pub struct Left {
+    /// The first token. Parentheses round the left side do not count.
+    pub at: At,
+    pub node: LeftNode,
+}
+
+/// What a left side is made of.
+#[derive(Debug, Drop)]
+pub enum LeftNode {
+    /// `x`.
+    Name(Ident),
+    /// `a[e]`.
+    Index(Ident, Expr),
+    /// `*e`.
+    Deref(Expr),
+}
+
+/// What may be assigned or returned, or may stand as a statement.
+#[derive(Debug, Drop)]
+pub enum Value {
+    Plain(Expr),
+    /// A call of a function. The place is the token of the function's name.
+    Call(At, Ident, List<Expr>),
+    /// `__sync_fetch_and_add(p, e)`. The place is the token of that word.
+    FetchAdd(At, Expr, Expr),
+    /// `__sync_bool_compare_and_swap(p, e, f)`. The place is the token of that word.
+    CompareSwap(At, Expr, Expr, Expr),
+}
+
+/// A local variable that is declared.
+#[derive(Debug, Drop)]
+pub struct Local {
+    /// The token of its name.
+    pub at: At,
+    pub pointer: bool,
+    pub name: Ident,
+    pub value: Option<Value>,
+}
+
+/// A statement or a declaration in a block.
+#[cycle(stmt)]
+#[derive(Debug, Drop)]
+pub struct Stmt {
+    /// The first token.
+    pub at: At,
+    pub node: StmtNode,
+}
+
+/// What a statement is made of.
+#[cycle(stmt)]
+#[derive(Debug, Drop)]
+pub enum StmtNode {
+    Empty,
+    Block(Items<Stmt>),
+    Declare(List<Local>),
+    /// Variables that hold threads.
+    DeclareThread(List<Word>),
+    /// `left = value`.
+    Assign(Left, Value),
+    /// `left op= e`. `++` and `--` are `+= 1` and `-= 1`, with the 1 at that token.
+    Update(Left, Binary, Expr),
+    /// A call for its effect.
+    Do(Value),
+    /// `if`, with what stands behind `else`.
+    If(Expr, Boxed<Stmt>, Option<Boxed<Stmt>>),
+    While(Expr, Boxed<Stmt>),
+    DoWhile(Boxed<Stmt>, Expr),
+    /// `for (first; condition; step) body`. Where the text has no condition it is the number 1, at the `;` behind it.
+    For(Option<Boxed<Stmt>>, Option<Expr>, Option<Boxed<Stmt>>, Boxed<Stmt>),
+    Break,
+    Continue,
+    Return(Option<Value>),
+    /// An assertion, with its text where it has one.
+    Assert(Expr, Option<Ident>),
+    Assume(Expr),
+    Fence,
+    /// Locks the mutex of this name.
+    Lock(Word),
+    /// Unlocks the mutex of this name.
+    Unlock(Word),
+    /// Starts a thread: the variable that holds it, and its function.
+    Start(Word, Word),
+    /// Waits for the thread that the variable holds.
+    Join(Word),
+    Goto(Word),
+    /// `name: statement`.
+    Label(Word, Boxed<Stmt>),
+    AtomBegin,
+    AtomEnd,
+}
