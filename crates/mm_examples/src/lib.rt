@@ -5,3 +5,7 @@
 mod instrument;
 #[cfg(test)]
 mod outside;
+#[cfg(test)]
+mod replay;
+#[cfg(test)]
+mod store_buffering;

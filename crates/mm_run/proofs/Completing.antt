@@ -1,14 +1,30 @@
--- A small program that is read whole is woven.
-use Rattle.std.proofs.Common.{◌≡◌, ℕ, ◌≤◌, List, ◌++◌, length, Option, Some, None, IfSome, ap, ◌∙◌, subst, arith, length-append, append-nil}
+-- An accepted input that is read whole is answered to its end.
+use Rattle.std.proofs.Common.{◌≡◌, ℕ, ◌≤◌, List, ◌∷◌, ◌++◌, length, take, drop, codes, Option, Some, None, IfSome, sym, ap, ◌∙◌, arith, length-append, append-nil, append_assoc, option_and_then, IsUtf8}
 use Rattle.std.specs.Io.KnownBytes.{Consumes, IsAtEnd}
+use Rattle.std.specs.Str.{IsValidUpTo}
+use Rattle.std.proofs.Math.Seq.{drop-append_seam, take-append_seam}
+use Rattle.std.proofs.lemmas.Str.{utf8_valid_len-IsUtf8, utf8_valid_len-IsValidUpTo}
 use Rattle.mm_goto.specs.Listing.{Listing}
 use Rattle.mm_parse.specs.SmallProgram.{IsSmallProgram}
+use Rattle.mm_parse.proofs.Unique.{only_program}
+use Rattle.mm_sched.specs.declared.entry.Entry.{Entry}
+use Rattle.mm_sched.specs.declared.entry.Rules.{Rules}
+use Rattle.mm_sched.specs.State.{State, initial}
+use Rattle.mm_sched.specs.Event.{next}
+use Rattle.mm_sched.specs.Runs.{run}
+use Rattle.mm_sched.specs.ScheduleText.{entries_in}
+use Rattle.mm_sched.proofs.Joins.{run-append}
+use Rattle.mm_sched.proofs.ReadingOn.{not_both, one_schedule}
 use Rattle.mm_run.specs.declared.command.Settings.{Settings}
-use Rattle.mm_run.specs.declared.command.Settings.TheVariants.{Instrument}
+use Rattle.mm_run.specs.declared.command.Settings.TheVariants.{Instrument, ReplaySc, Replay}
 use Rattle.mm_run.specs.declared.status.Status.{Status}
-use Rattle.mm_run.specs.declared.status.Status.TheVariants.{Done, Words, ReadFault, TooLong, Refused, BadSchedule, Stuck, NotFailing, WriteFault, NoMemory}
+use Rattle.mm_run.specs.Accepted.{HasParts, IsAccepted, IsRun}
 use Rattle.mm_run.specs.Input.{IsTooLong}
-use Rattle.mm_run.specs.Answer.{Responds, IsDoneOrKept}
+use Rattle.mm_run.specs.Parts.{IsSplit}
+use Rattle.mm_run.specs.Replay.{IsStuckBehind, Replays}
+use Rattle.mm_run.specs.Answer.{AnswersText, AnswersWhole, Instruments, ReplaysParts, Responds, IsDoneOrKept}
+
+-- ---- what was read is the input
 
 whole_is : (xs bytes : List ℕ) (new : Option (List ℕ)) → Consumes (Some xs) new bytes → IsAtEnd new → xs ≡ bytes
 whole_is xs bytes None c e = absurd c
@@ -21,26 +37,76 @@ no_longer xs bytes (Some ys) c = omega (arith, ap length c, length-append bytes 
 not_long : (xs : List ℕ) (new : Option (List ℕ)) → IsTooLong (Some xs) new → length xs ≤ 16777216 → ⊥
 not_long xs new t l = omega (arith, t.long, no_longer xs t.bytes new t.read, l)
 
-not_refused : (s : Settings) (xs out : List ℕ) (new : Option (List ℕ)) (p : Listing) → IsSmallProgram xs p → Responds s (Some xs) new Refused out → ⊥
-not_refused (Instrument m k) xs out new p h (Responds.whole bytes w a) = a.0 p (subst (λ (t : List ℕ). IsSmallProgram t p) (whole_is xs bytes new w.read w.end) h)
+-- ---- its parts are determined
 
-not_too_long : (s : Settings) (xs out : List ℕ) (new : Option (List ℕ)) → length xs ≤ 16777216 → Responds s (Some xs) new TooLong out → ⊥
-not_too_long (Instrument m k) xs out new l (Responds.whole bytes w a) = a
-not_too_long s xs out new l (Responds.too_long t) = not_long xs new t l
+is_text : (input : List ℕ) (n : ℕ) → IsUtf8 input → IsValidUpTo input n → ⊥
+is_text input n u v = omega (arith, v.short, utf8_valid_len-IsUtf8 input u, utf8_valid_len-IsValidUpTo input n v)
 
-done : (s : Settings) (xs out : List ℕ) (new : Option (List ℕ)) (status : Status) (p : Listing) → Responds s (Some xs) new status out → IsSmallProgram xs p → length xs ≤ 16777216 → IsDoneOrKept status
-done s xs out new Done p r h l = tt
-done s xs out new ReadFault p r h l = tt
-done s xs out new WriteFault p r h l = tt
-done s xs out new NoMemory p r h l = tt
-done s xs out new TooLong p r h l = not_too_long s xs out new l r
-done s xs out new Refused p r h l = not_refused s xs out new p h r
-done (Instrument m k) xs out new Words p (Responds.whole bytes w a) h l = a
-done (Instrument m k) xs out new BadSchedule p (Responds.whole bytes w a) h l = a
-done (Instrument m k) xs out new Stuck p (Responds.whole bytes w a) h l = a
-done (Instrument m k) xs out new NotFailing p (Responds.whole bytes w a) h l = a
+one_program : (text : List ℕ) (p q : Listing) → IsSmallProgram text p → IsSmallProgram text q → p ≡ q
+one_program text p q h k = h.flat ∙ sym (only_program text h.tree h.parsed q k)
 
-pub complete : (o : Option Settings) (old new : Option (List ℕ)) (s : Settings) (status : Status) (out : List ℕ) → Responds s old new status out → IfSome o (λ _. IfSome old (λ text. (p : Listing) → IsSmallProgram text p → length text ≤ 16777216 → IsDoneOrKept status))
-complete None old new s status out r = tt
-complete (Some o) None new s status out r = tt
-complete (Some o) (Some xs) new s status out r = λ p h l. done s xs out new status p r h l
+module _ (input : List ℕ) (a b c d : List ℕ) (h : IsSplit input a c) (k : IsSplit input b d) where
+  same_length : length a ≡ length b
+  same_length = omega (arith, h.first (length b) k.parting, k.first (length a) h.parting)
+
+  front : (x y : List ℕ) → IsSplit input x y → take (length x) input ≡ x
+  front x y s = ap (λ (t : List ℕ). take (length x) t) (s.whole ∙ append_assoc x (codes "%%\n") y) ∙ take-append_seam x (codes "%%\n" ++ y)
+
+  back : (x y : List ℕ) → IsSplit input x y → drop (length (x ++ codes "%%\n")) input ≡ y
+  back x y s = ap (λ (t : List ℕ). drop (length (x ++ codes "%%\n")) t) s.whole ∙ drop-append_seam (x ++ codes "%%\n") y
+
+  one_front : a ≡ b
+  one_front = sym (front a c h) ∙ ap (λ n. take n input) same_length ∙ front b d k
+
+  one_back : c ≡ d
+  one_back = sym (back a c h) ∙ ap (λ (x : List ℕ). drop (length (x ++ codes "%%\n")) input) one_front ∙ back b d k
+
+-- ---- the schedule is a run
+
+no_other_end : (r : Rules) (p : Listing) (from last : State) (es : List Entry) (k : ℕ) → run r p from es ≡ Some last → IsStuckBehind r p from es k → ⊥
+no_other_end r p from last es k e s =
+    let parts : run r p from es ≡ option_and_then (λ mid. run r p mid (s.entry ∷ s.behind)) (run r p from s.before) = ap (λ (xs : List Entry). run r p from xs) s.parts ∙ run-append r p from s.before (s.entry ∷ s.behind) in
+    let ahead : run r p from es ≡ option_and_then (λ mid. run r p mid s.behind) (next r p s.mid s.entry) = parts ∙ ap (λ (o : Option State). option_and_then (λ mid. run r p mid (s.entry ∷ s.behind)) o) s.runs in
+    let none : run r p from es ≡ None = ahead ∙ ap (λ (o : Option State). option_and_then (λ mid. run r p mid s.behind) o) s.stuck in
+    cc
+
+module _ (r : Rules) (input : List ℕ) (h : IsRun r input) where
+  replayed : (p : Listing) (schedule : List ℕ) (status : Status) (out : List ℕ) → p ≡ h.listing → schedule ≡ h.schedule → Replays r p schedule status out → IsDoneOrKept status
+  replayed p schedule status out same_program same_schedule (Replays.ends lines last s e) = tt
+  replayed p schedule status out same_program same_schedule (Replays.bad k s) = absurd (not_both h.schedule h.lines k h.fits (rw (sym same_schedule) s))
+  replayed p schedule status out same_program same_schedule (Replays.stuck lines k s e) =
+      let same : lines ≡ h.lines = one_schedule h.schedule lines h.lines (rw (sym same_schedule) s) h.fits in
+      absurd (no_other_end r h.listing (initial h.listing) h.last (entries_in h.lines) k h.runs (rw (sym same, sym same_program) e))
+
+  parts : (status : Status) (out : List ℕ) → ReplaysParts r input status out → IsDoneOrKept status
+  parts status out (ReplaysParts.one_part lacks) = absurd (lacks _ h.split.parting)
+  parts status out (ReplaysParts.not_built program schedule s no_program) =
+      let same : program ≡ h.program = one_front input program h.program schedule h.schedule s h.split in
+      absurd (no_program h.listing (rw same h.small))
+  parts status out (ReplaysParts.both program schedule p s small e) =
+      let same : program ≡ h.program = one_front input program h.program schedule h.schedule s h.split in
+      replayed p schedule status out (one_program h.program p h.listing (rw (sym same) small) h.small) (one_back input program h.program schedule h.schedule s h.split) e
+
+instrumented : (bound : ℕ) (input : List ℕ) (p : Listing) → IsSmallProgram input p → (status : Status) (out : List ℕ) → Instruments bound input status out → IsDoneOrKept status
+instrumented bound input p h status out (Instruments.done w) = tt
+instrumented bound input p h status out (Instruments.not_built n) = absurd (n p h)
+
+-- ---- the answer
+
+done_text : (s : Settings) (input : List ℕ) (status : Status) (out : List ℕ) → HasParts s input → AnswersText s input status out → IsDoneOrKept status
+done_text (Instrument m bound) input status out h a = instrumented bound input h.0 h.1 status out a
+done_text ReplaySc input status out h a = parts _ input h status out a
+done_text (Replay m bound) input status out h a = parts _ input h status out a
+
+done_whole : (s : Settings) (input : List ℕ) (status : Status) (out : List ℕ) → IsAccepted s input → AnswersWhole s input status out → IsDoneOrKept status
+done_whole s input status out h (AnswersWhole.no_text at n) = absurd (is_text input n.front h.text n.longest)
+done_whole s input status out h (AnswersWhole.text u a) = done_text s input status out h.parts a
+
+done : (s : Settings) (xs out : List ℕ) (new : Option (List ℕ)) (status : Status) → Responds s (Some xs) new status out → IsAccepted s xs → length xs ≤ 16777216 → IsDoneOrKept status
+done s xs out new status (Responds.whole bytes w a) h l = let same : xs ≡ bytes = whole_is xs bytes new w.read w.end in done_whole s xs status out h (rw same a)
+done s xs out new status (Responds.too_long t) h l = absurd (not_long xs new t l)
+
+pub complete : (o : Option Settings) (old new : Option (List ℕ)) (s : Settings) (status : Status) (out : List ℕ) → o ≡ Some s → Responds s old new status out → IfSome o (λ s. IfSome old (λ text. IsAccepted s text → length text ≤ 16777216 → IsDoneOrKept status))
+complete None old new s status out e r = tt
+complete (Some o) None new s status out e r = tt
+complete (Some o) (Some xs) new s status out e r = λ h l. let same : o ≡ s = cc in done s xs out new status r (rw (sym same) h) l

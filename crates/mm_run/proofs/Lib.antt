@@ -1,7 +1,11 @@
 pub mod Alike
+pub mod Answered
 pub mod Answering
 pub mod Completing
+pub mod Parting
 pub mod Reading
+pub mod Replaying
+pub mod Sectionless
 pub mod Straight
 pub mod Weaving
 pub mod Writing

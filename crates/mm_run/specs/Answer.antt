@@ -1,18 +1,25 @@
 -- What the tool answers for the words of a command and an input.
 use Rattle.std.specs.Prelude.{◌≡◌, ◌↔◌, ℕ, List, codes, Option}
+use Rattle.std.specs.Str.{IsUtf8}
 use Rattle.std.specs.Io.KnownBytes.{Appends}
+use Rattle.mm_goto.specs.declared.ident.At.{At}
 use Rattle.mm_goto.specs.Listing.{Listing}
+use Rattle.mm_goto.specs.Place.{start, place_after}
 use Rattle.mm_goto.specs.declared.model.Model.TheVariants.{Tso}
+use Rattle.mm_sched.specs.declared.entry.Rules.{Rules}
 use Rattle.mm_sched.specs.declared.entry.Rules.TheVariants.{Sc, Buffered}
 use Rattle.mm_sched.specs.Runs.{Reaches}
 use Rattle.mm_parse.specs.SmallProgram.{IsSmallProgram}
 use Rattle.mm_print.specs.SmallText.{small_text}
 use Rattle.mm_run.specs.declared.command.Settings.{Settings}
-use Rattle.mm_run.specs.declared.command.Settings.TheVariants.{Instrument}
+use Rattle.mm_run.specs.declared.command.Settings.TheVariants.{Instrument, ReplaySc, Replay}
 use Rattle.mm_run.specs.declared.status.Status.{Status}
-use Rattle.mm_run.specs.declared.status.Status.TheVariants.{Done, Words, ReadFault, TooLong, Refused, BadSchedule, Stuck, NotFailing, WriteFault, NoMemory}
+use Rattle.mm_run.specs.declared.status.Status.TheVariants.{Done, Words, ReadFault, TooLong, Refused, WriteFault, NoMemory}
 use Rattle.mm_run.specs.Input.{IsWhole, IsTooLong}
+use Rattle.mm_run.specs.Lines.{refusal_line}
 use Rattle.mm_run.specs.Output.{AppendsPart}
+use Rattle.mm_run.specs.Parts.{IsNotUtf8, IsSplit, LacksPart}
+use Rattle.mm_run.specs.Replay.{Replays}
 use Rattle.mm_run.specs.Woven.{woven}
 
 -- under sequential consistency q fails just the assertions that p fails with store buffers of this bound under TSO
@@ -30,18 +37,27 @@ pub record IsWoven (input : List ℕ) (bound : ℕ) (out : List ℕ) : Type 0 wh
 abbrev pub IsNotBuilt : List ℕ → Type 0
 IsNotBuilt input = (p : Listing) → IsSmallProgram input p → ⊥
 
+-- the status and the output of `instrument`
+pub data Instruments (bound : ℕ) (input : List ℕ) : Status → List ℕ → Type 0 where
+  done : {out : List ℕ} → IsWoven input bound out → Instruments bound input Done out
+  not_built : IsNotBuilt input → Instruments bound input Refused (refusal_line start (codes "not built"))
+
+-- the status and the output of `replay` on the machine of these rules
+pub data ReplaysParts (r : Rules) (input : List ℕ) : Status → List ℕ → Type 0 where
+  one_part : LacksPart input → ReplaysParts r input Refused (refusal_line (place_after input) (codes "missing part"))
+  not_built : (program schedule : List ℕ) → IsSplit input program schedule → IsNotBuilt program → ReplaysParts r input Refused (refusal_line start (codes "not built"))
+  both : {status : Status} {out : List ℕ} (program schedule : List ℕ) (p : Listing) → IsSplit input program schedule → IsSmallProgram program p → Replays r p schedule status out → ReplaysParts r input status out
+
+-- the status and the output for an input that is a text
+abbrev pub AnswersText : Settings → List ℕ → Status → List ℕ → Type 0
+AnswersText (Instrument m bound) input status out = Instruments bound input status out
+AnswersText ReplaySc input status out = ReplaysParts Sc input status out
+AnswersText (Replay m bound) input status out = ReplaysParts (Buffered m bound) input status out
+
 -- the status and the output for an input of at most the greatest length
-abbrev pub AnswersWhole : Settings → List ℕ → Status → List ℕ → Type 0
-AnswersWhole (Instrument m bound) input Done out = IsWoven input bound out
-AnswersWhole (Instrument m bound) input Refused out = IsNotBuilt input × (out ≡ codes "refused: 1:1 not built\n")
-AnswersWhole (Instrument m bound) input Words out = ⊥
-AnswersWhole (Instrument m bound) input ReadFault out = ⊥
-AnswersWhole (Instrument m bound) input TooLong out = ⊥
-AnswersWhole (Instrument m bound) input BadSchedule out = ⊥
-AnswersWhole (Instrument m bound) input Stuck out = ⊥
-AnswersWhole (Instrument m bound) input NotFailing out = ⊥
-AnswersWhole (Instrument m bound) input WriteFault out = ⊥
-AnswersWhole (Instrument m bound) input NoMemory out = ⊥
+pub data AnswersWhole (s : Settings) (input : List ℕ) : Status → List ℕ → Type 0 where
+  no_text : (at : At) → IsNotUtf8 input at → AnswersWhole s input Refused (refusal_line at (codes "not UTF-8"))
+  text : {status : Status} {out : List ℕ} → IsUtf8 input → AnswersText s input status out → AnswersWhole s input status out
 
 -- what is read, and the status and the output for it
 pub data Responds (s : Settings) (old new : Option (List ℕ)) : Status → List ℕ → Type 0 where
@@ -63,16 +79,10 @@ pub record BreaksOff (s : Settings) (old new taken now : Option (List ℕ)) : Ty
 
 -- how a command ends, by what is left of the input and what is taken of the output
 abbrev pub Ends : Settings → Option (List ℕ) → Option (List ℕ) → Option (List ℕ) → Option (List ℕ) → Status → Type 0
-Ends s old new taken now Done = Writes s old new taken now Done
-Ends s old new taken now TooLong = Writes s old new taken now TooLong
-Ends s old new taken now Refused = Writes s old new taken now Refused
-Ends s old new taken now WriteFault = BreaksOff s old new taken now
 Ends s old new taken now ReadFault = Unit {0}
 Ends s old new taken now NoMemory = Unit {0}
-Ends s old new taken now Words = ⊥
-Ends s old new taken now BadSchedule = ⊥
-Ends s old new taken now Stuck = ⊥
-Ends s old new taken now NotFailing = ⊥
+Ends s old new taken now WriteFault = BreaksOff s old new taken now
+Ends s old new taken now status = Writes s old new taken now status
 
 -- nothing is written where the words are no command, a read failed or memory was wanting
 abbrev pub WritesNothing : Status → Type 0
@@ -80,6 +90,14 @@ WritesNothing Words = Unit {0}
 WritesNothing ReadFault = Unit {0}
 WritesNothing NoMemory = Unit {0}
 WritesNothing _ = ⊥
+
+-- the status tells what came of an input that was read
+abbrev pub IsOfInput : Status → Type 0
+IsOfInput Words = ⊥
+IsOfInput ReadFault = ⊥
+IsOfInput WriteFault = ⊥
+IsOfInput NoMemory = ⊥
+IsOfInput _ = Unit {0}
 
 -- done, or kept from it by a fault or by want of memory
 abbrev pub IsDoneOrKept : Status → Type 0

@@ -1,6 +1,10 @@
+pub mod Accepted
 pub mod Answer
 pub mod Input
+pub mod Lines
 pub mod Output
+pub mod Parts
+pub mod Replay
 pub mod Settings
 pub mod Status
 pub mod Woven

@@ -1,12 +1,16 @@
-ghost use Rattle.std.specs.Prelude.{◌≡◌, ◌≤◌, ℕ, List, length, codes, IfOk, string_bytes};
+ghost use Rattle.std.specs.Prelude.{◌≡◌, ◌≤◌, ◌+◌, ℕ, List, length, codes, IfOk, IsUtf8, string_bytes};
+ghost use Rattle.mm_goto.specs.Place.{start};
 ghost use Rattle.mm_goto.specs.Valid.{IsValid};
 ghost use Rattle.mm_parse.specs.SmallProgram.{IsSmallProgram};
-ghost use Rattle.mm_run.specs.Answer.{AnswersWhole, IsWoven};
+ghost use Rattle.mm_run.specs.Answer.{AnswersText, AnswersWhole, Instruments, IsWoven};
+ghost use Rattle.mm_run.specs.Lines.{refusal_line};
 
 use crate::command::Settings;
 use crate::input::MAX_INPUT;
+use crate::parts::text_of;
+use crate::replay::{Memory, answer_replay};
 use crate::status::Status;
-use mm_goto::{Bound, NoMemory, Program};
+use mm_goto::{At, Bound, NoMemory, Program};
 use mm_parse::{SmallFault, parse_small};
 use mm_print::print_small;
 use std::alloc::Global;
@@ -16,6 +20,25 @@ use std::alloc::Global;
 pub struct Answer {
     pub status: Status,
     pub output: String,
+}
+
+/// The answer that a program is refused.
+pub fn refused(alloc: Global, at: At, why: &str) -> Result<Answer, NoMemory>
+    ensures { IfOk result (λ answer. (answer.status ≡ Status.Refused) × (string_bytes answer.output ≡ refusal_line at why.now)) }
+{
+    let line = at.line;
+    let column = at.column;
+    Ok(Answer {
+        status: Status::Refused,
+        output: format!(in alloc; "refused: {line}:{column} {why}\n")?,
+    })
+}
+
+/// The answer that a program is read by no part of the tool yet.
+pub fn not_built(alloc: Global) -> Result<Answer, NoMemory>
+    ensures { IfOk result (λ answer. (answer.status ≡ Status.Refused) × (string_bytes answer.output ≡ refusal_line start (codes "not built"))) }
+{
+    refused(alloc, At::start(), "not built")
 }
 
 // The text of the woven program of a small program.
@@ -29,22 +52,42 @@ fn weave(alloc: Global, program: &Program, bound: Bound) -> Result<String, NoMem
     print_small(alloc, program, bound)
 }
 
+#[tactic(auto, using(crate::proofs::Answering::is_woven))]
+fn answer_instrument(alloc: Global, bound: Bound, input: &str) -> Result<Answer, NoMemory>
+    requires { length input.now ≤ MAX_INPUT }
+    ensures { IfOk result (λ answer. Instruments bound input.now answer.status (string_bytes answer.output)) }
+{
+    match parse_small(alloc, input.as_bytes()) {
+        Ok(program) => Ok(Answer {
+            status: Status::Done,
+            output: weave(alloc, &program, bound)?,
+        }),
+        Err(SmallFault::NotBuilt) => not_built(alloc),
+        Err(SmallFault::NoMemory) => Err(NoMemory),
+    }
+}
+
+fn answer_text(alloc: Global, settings: Settings, input: &str) -> Result<Answer, NoMemory>
+    requires { length input.now ≤ MAX_INPUT }
+    ensures { IfOk result (λ answer. AnswersText settings input.now answer.status (string_bytes answer.output)) }
+{
+    match settings {
+        Settings::Instrument(_, bound) => answer_instrument(alloc, bound, input),
+        Settings::ReplaySc => answer_replay(alloc, Memory::Direct, input),
+        Settings::Replay(model, bound) => {
+            answer_replay(alloc, Memory::Buffered(model, bound), input)
+        }
+    }
+}
+
 /// The answer to an input.
 pub fn answer_whole(alloc: Global, settings: Settings, input: &[u8]) -> Result<Answer, NoMemory>
     requires { length input.now ≤ MAX_INPUT }
     ensures { IfOk result (λ answer. AnswersWhole settings input.now answer.status (string_bytes answer.output)) }
 {
-    let Settings::Instrument(_, bound) = settings;
-    match parse_small(alloc, input) {
-        Ok(program) => Ok(Answer {
-            status: Status::Done,
-            output: weave(alloc, &program, bound)?,
-        }),
-        Err(SmallFault::NotBuilt) => Ok(Answer {
-            status: Status::Refused,
-            output: String::from_str(alloc, "refused: 1:1 not built\n")?,
-        }),
-        Err(SmallFault::NoMemory) => Err(NoMemory),
+    match text_of(input) {
+        Ok(text) => answer_text(alloc, settings, text),
+        Err(at) => refused(alloc, at, "not UTF-8"),
     }
 }
 

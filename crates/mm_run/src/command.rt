@@ -5,4 +5,8 @@ use mm_goto::{Bound, Model};
 pub enum Settings {
     /// The woven program of a source, for a model and a bound.
     Instrument(Model, Bound),
+    /// What a schedule does under sequential consistency.
+    ReplaySc,
+    /// What a schedule does with store buffers of the bound under the model.
+    Replay(Model, Bound),
 }

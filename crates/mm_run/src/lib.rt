@@ -4,7 +4,10 @@
 mod answer;
 mod command;
 mod input;
+mod machine;
 mod output;
+mod parts;
+mod replay;
 mod status;
 mod top;
 mod words;

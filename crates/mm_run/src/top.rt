@@ -1,8 +1,7 @@
 ghost use Rattle.std.specs.Prelude.{◌≡◌, ◌≢◌, ◌↔◌, ◌≤◌, length, map, string_bytes, IfOk, IfSome, None, IsErrOf, OnErr, OnOk};
 ghost use Rattle.mm_port.specs.Port.{Rose};
-ghost use Rattle.mm_run.specs.Answer.{Responds, Ends, WritesNothing, IsDoneOrKept};
-ghost use Rattle.mm_goto.specs.Listing.{Listing};
-ghost use Rattle.mm_parse.specs.SmallProgram.{IsSmallProgram};
+ghost use Rattle.mm_run.specs.Answer.{Responds, Ends, WritesNothing, IsDoneOrKept, IsOfInput};
+ghost use Rattle.mm_run.specs.Accepted.{IsAccepted};
 ghost use Rattle.mm_run.specs.Settings.{settings_of};
 
 use crate::answer::{Answer, answer_too_long, answer_whole};
@@ -15,13 +14,14 @@ use mm_port::{Sink, Source};
 use std::alloc::Global;
 
 // The answer to what is read.
-#[tactic(auto, using(crate::proofs::Answering::responds_whole, crate::proofs::Answering::responds_long))]
+#[tactic(auto, using(crate::proofs::Answering::responds_whole, crate::proofs::Answering::responds_long, crate::proofs::Answered::of_whole))]
 fn respond<I: Source>(
     alloc: Global,
     settings: Settings,
     input: &mut I,
 ) -> Result<Answer, InputFault>
     ensures responds { IfOk result (λ answer. Responds settings (I.left input.old) (I.left input.new) answer.status (string_bytes answer.output)) }
+    ensures of_input { IfOk result (λ answer. IsOfInput answer.status) }
     ensures ok { OnOk result (I.faults input.new ≡ I.faults input.old) }
     ensures no_memory { IsErrOf result InputFault.NoMemory → I.faults input.new ≡ I.faults input.old }
     ensures failed { IsErrOf result InputFault.Failed → Rose (I.faults input.old) (I.faults input.new) }
@@ -32,6 +32,7 @@ fn respond<I: Source>(
     }
 }
 
+#[tactic(auto, using(crate::proofs::Answered::ends))]
 /// Runs the command of the words: reads the input to its end, and writes the output.
 pub fn run<I: Source, O: Sink>(
     alloc: Global,
@@ -48,9 +49,9 @@ pub fn run<I: Source, O: Sink>(
     ensures ends { IfSome (settings_of (map string_bytes words.now)) (λ s.
         Ends s (I.left input.old) (I.left input.new) (O.taken output.old) (O.taken output.new) result) }
 
-    // A small program is woven, but where a fault or want of memory keeps it from that.
+    // An input that is accepted is answered to its end, but where a fault or want of memory keeps it from that.
     ensures complete { IfSome (settings_of (map string_bytes words.now)) (λ s. IfSome (I.left input.old) (λ text.
-        (p : Listing) → IsSmallProgram text p → length text ≤ MAX_INPUT → IsDoneOrKept result)) }
+        IsAccepted s text → length text ≤ MAX_INPUT → IsDoneOrKept result)) }
 
     // A fault is told only where the input or the output failed.
     ensures read_fault { result ≡ Status.ReadFault → Rose (I.faults input.old) (I.faults input.new) }

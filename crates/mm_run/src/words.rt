@@ -1,5 +1,5 @@
 ghost use Rattle.std.specs.Prelude.{◌≡◌, map, string_bytes};
-ghost use Rattle.mm_run.specs.Settings.{bound_of, settings_of};
+ghost use Rattle.mm_run.specs.Settings.{bound_of, command_of, model_of, settings_of, with_bound, without_bound, woven_for};
 
 use crate::command::Settings;
 use mm_goto::{Bound, Model};
@@ -21,19 +21,62 @@ fn bound_of(word: &str) -> Option<Bound>
     }
 }
 
+fn model_of(word: &str) -> Option<Model>
+    ensures { result ≡ model_of word.now }
+{
+    match word {
+        "tso" => Some(Model::Tso),
+        "pso" => Some(Model::Pso),
+        _ => None,
+    }
+}
+
+fn woven_for(model: Model, bound: Bound) -> Option<Settings>
+    ensures { result ≡ woven_for model bound }
+{
+    match model {
+        Model::Tso => Some(Settings::Instrument(Model::Tso, bound)),
+        Model::Pso => None,
+    }
+}
+
+fn command_of(word: &str, model: Model, bound: Bound) -> Option<Settings>
+    ensures { result ≡ command_of word.now model bound }
+{
+    match word {
+        "instrument" => woven_for(model, bound),
+        "replay" => Some(Settings::Replay(model, bound)),
+        _ => None,
+    }
+}
+
+fn with_bound(command: &str, mm: &str, model: &str, bound: &str, number: &str) -> Option<Settings>
+    ensures { result ≡ with_bound command.now mm.now model.now bound.now number.now }
+{
+    if mm == "--mm" && bound == "--bound" {
+        command_of(command, model_of(model)?, bound_of(number)?)
+    } else {
+        None
+    }
+}
+
+fn without_bound(command: &str, mm: &str, model: &str) -> Option<Settings>
+    ensures { result ≡ without_bound command.now mm.now model.now }
+{
+    if command == "replay" && mm == "--mm" && model == "sc" {
+        Some(Settings::ReplaySc)
+    } else {
+        None
+    }
+}
+
 /// What the words ask for, where they have the shape of a command.
 pub fn settings(words: &[String]) -> Option<Settings>
     ensures { result ≡ settings_of (map string_bytes words.now) }
 {
     match words {
-        [command, mm, model, bound, number]
-            if command.as_str() == "instrument"
-                && mm.as_str() == "--mm"
-                && model.as_str() == "tso"
-                && bound.as_str() == "--bound" => {
-            let bound = bound_of(number.as_str())?;
-            Some(Settings::Instrument(Model::Tso, bound))
-        }
+        [command, mm, model, bound, number] => with_bound(command, mm, model, bound, number),
+        [command, mm, model] => without_bound(command, mm, model),
         _ => None,
     }
 }

@@ -1,6 +1,6 @@
 -- A run under sequential consistency of a program of one thread, with each store flushed at once, is a run with store
 -- buffers.
-use Rattle.std.proofs.Common.{arith, ◌≡◌, ℕ, zero, suc, ◌≤◌, ℤ, Bool, true, false, List, [], ◌∷◌, ◌++◌, length, cond, slice_get, Option, Some, None, option_map, refl, sym, ◌∙◌, ap, subst, IfSome, if◌then◌else◌, lt-ltb, eq-eqb}
+use Rattle.std.proofs.Common.{arith, ◌≡◌, ℕ, zero, suc, ◌≤◌, ℤ, true, List, [], ◌∷◌, ◌++◌, length, cond, slice_get, Option, Some, None, option_map, refl, sym, ◌∙◌, ap, subst, IfSome, if◌then◌else◌, lt-ltb, eq-eqb}
 use Rattle.std.proofs.lemmas.Option.{IfSome_then}
 use Rattle.mm_goto.specs.declared.program.Target.{Target}
 use Rattle.mm_goto.specs.declared.program.Instr.{Instr}
@@ -15,27 +15,18 @@ use Rattle.mm_sched.specs.declared.entry.How.TheVariants.{Delayed, NotEnabled}
 use Rattle.mm_sched.specs.declared.entry.Act.{Act}
 use Rattle.mm_sched.specs.declared.entry.Act.TheVariants.{Pushes, Puts}
 use Rattle.mm_sched.specs.declared.entry.Event.TheVariants.{Does, Flushes}
-use Rattle.mm_sched.specs.Guarded.{◌>>=◌, guarded}
+use Rattle.mm_sched.specs.Guarded.{◌>>=◌}
 use Rattle.mm_goto.specs.Listing.{Listing}
 use Rattle.mm_sched.specs.State.{Frame, State, Pending, initial}
 use Rattle.mm_sched.specs.Buffer.{part, pends}
 use Rattle.mm_sched.specs.Event.{act, acted, after, event, next, fetched, flushed, may_step, cell_of, stored}
 use Rattle.mm_goto.specs.Value.{value_of}
 use Rattle.mm_sched.specs.Runs.{run, Reaches}
-use Rattle.mm_sched.proofs.Steps.{map-if}
+use Rattle.mm_sched.proofs.Steps.{map-if, bind-there, guarded-there}
 use Rattle.mm_sched.proofs.Joins.{run-append}
 use Rattle.mm_sched.proofs.Quiet.{run-keeps}
 use Rattle.mm_sched.proofs.Settled.{loaded}
 use Rattle.mm_sched.proofs.Drops.{other-does, starts-empty}
-
--- what is done where a part of a step is there
-bind-there : {A B : Type 0} (P : B → Type 0) (o : Option A) (f : A → Option B) → ((a : A) → o ≡ Some a → IfSome (f a) P) → IfSome (o >>= f) P
-bind-there P None f h = tt
-bind-there P (Some a) f h = h a refl
-
-guarded-there : {A B : Type 0} (P : B → Type 0) (b : Bool) (o : Option A) (f : A → Option B) → (b ≡ true → IfSome (o >>= f) P) → IfSome (guarded b o >>= f) P
-guarded-there P true o f h = h refl
-guarded-there P false o f h = tt
 
 itself : {A : Type 0} (o : Option A) → IfSome o (λ a. o ≡ Some a)
 itself None = tt

@@ -37,13 +37,13 @@ pub record Fits (p : Listing) (s : State) : Type 0 where
   pub memory : length s.memory ≡ length p.cells
   pub pending : length s.pending ≡ 1
 
-acted-memory : (s : State) (t : ℕ) (a : Act) → length (acted s t a).memory ≡ length s.memory
+pub acted-memory : (s : State) (t : ℕ) (a : Act) → length (acted s t a).memory ≡ length s.memory
 unfolding acted
 acted-memory s t (Puts c v) = length-set s.memory c v
 acted-memory s t (Updates l v c w) = length-set s.memory c w
 acted-memory s t _ = refl
 
-acted-pending : (s : State) (t : ℕ) (a : Act) → length (acted s t a).pending ≡ length s.pending
+pub acted-pending : (s : State) (t : ℕ) (a : Act) → length (acted s t a).pending ≡ length s.pending
 unfolding acted
 acted-pending s t (Pushes c v) = length-set s.pending t (pending_of s t ++ (c, v) ∷ [])
 acted-pending s t _ = refl
@@ -74,7 +74,7 @@ kept (In t v) = In t v ∷ []
 kept (Flush t) = []
 kept (FlushCell t c) = []
 
-flush-none : (m : Model) (e : Entry) → flush_under m e [] ≡ None
+pub flush-none : (m : Model) (e : Entry) → flush_under m e [] ≡ None
 flush-none Tso (Flush t) = refl
 flush-none Pso (FlushCell t c) = refl
 flush-none _ _ = refl

@@ -153,7 +153,7 @@ run-keeps p s (e ∷ es) = bind-with (KeepsPending s) (KeepsPending s) (next Sc 
     on_to mid h None k = tt
     on_to mid h (Some last) k = k ∙ h
 
-no-pending : (xs : List Thread) (t : ℕ) → slice_index_or {A = List Pending} (map (λ thread. []) xs) t [] ≡ []
+pub no-pending : (xs : List Thread) (t : ℕ) → slice_index_or {A = List Pending} (map (λ thread. []) xs) t [] ≡ []
 no-pending [] t = refl
 no-pending (x ∷ xs) zero = refl
 no-pending (x ∷ xs) (suc t) = no-pending xs t

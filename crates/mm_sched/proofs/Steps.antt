@@ -43,3 +43,12 @@ map-with P Q f (Some b) q h = h b q
 pub if-at : {A : Type 0} (P : A → Type 0) (o : Option A) (a : A) → o ≡ Some a → IfSome o P → P a
 if-at P None a e h = absurd (cc)
 if-at P (Some b) a e h = let same : b ≡ a = cc in subst P same h
+
+-- what is done where a part of a step is there
+pub bind-there : {A B : Type 0} (P : B → Type 0) (o : Option A) (f : A → Option B) → ((a : A) → o ≡ Some a → IfSome (f a) P) → IfSome (o >>= f) P
+bind-there P None f h = tt
+bind-there P (Some a) f h = h a refl
+
+pub guarded-there : {A B : Type 0} (P : B → Type 0) (b : Bool) (o : Option A) (f : A → Option B) → (b ≡ true → IfSome (o >>= f) P) → IfSome (guarded b o >>= f) P
+guarded-there P true o f h = h refl
+guarded-there P false o f h = tt

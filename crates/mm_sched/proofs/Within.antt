@@ -18,7 +18,7 @@ All-get P [] k h = tt
 All-get P (x ∷ xs) zero h = h zero x (omega arith)
 All-get P (x ∷ xs) (suc k) h = All-get P xs k (λ j d l. h (suc j) d (omega arith))
 
-element-within : (z : ℤ) (first len cells : ℕ) → first + len ≤ cells → IfSome (element z first len) (λ c. c < cells)
+pub element-within : (z : ℤ) (first len cells : ℕ) → first + len ≤ cells → IfSome (element z first len) (λ c. c < cells)
 element-within (negsuc n) first len cells h = tt
 element-within (pos n) first len cells h = go (nat_lt n len) refl
   where
@@ -26,7 +26,7 @@ element-within (pos n) first len cells h = go (nat_lt n len) refl
     go true e = let l : n < len = ltb-true n len e in omega arith
     go false e = tt
 
-pointee-within : (z : ℤ) (cells : ℕ) → IfSome (pointee z cells) (λ c. c < cells)
+pub pointee-within : (z : ℤ) (cells : ℕ) → IfSome (pointee z cells) (λ c. c < cells)
 pointee-within (pos zero) cells = tt
 pointee-within (negsuc n) cells = tt
 pointee-within (pos (suc n)) cells = go (nat_lt n cells) refl

@@ -1,6 +1,13 @@
 pub mod Buffer
 pub mod Event
 pub mod Guarded
+pub mod Possible
+pub mod Reading
+pub mod Running
 pub mod Runs
+pub mod ScheduleText
+pub mod Sections
+pub mod Spelling
 pub mod State
 pub mod Tiny
+pub mod Writing

@@ -78,3 +78,7 @@ pub enum Event {
     /// The thread's pending store to the cell of the value moves to memory.
     Flushes(u32, u32, i32),
 }
+
+/// The entry is not enabled: there is no next state.
+#[derive(Clone, Copy, Debug, PartialEq, Eq)]
+pub struct Stuck;

@@ -1,8 +1,25 @@
-//! The machines: states, entries, steps and runs, for sequential consistency, TSO, PSO and the partial machine.
+//! The machines: states, entries, steps and runs, for sequential consistency, TSO, PSO and the partial machine. The text
+//! of schedules.
 #![tactic(auto)]
 
 pub mod alone;
+mod count;
 mod entry;
+mod frame;
 pub mod laws;
+mod machine;
+mod read;
+mod rules;
+mod schedule;
+pub mod text;
+mod waiting;
+mod write;
 
-pub use entry::{Act, Entry, Event, How, Rules};
+pub use entry::{Act, Entry, Event, How, Rules, Stuck};
+pub use machine::Machine;
+pub use read::read_schedule;
+pub use schedule::{Line, SchedFault, Schedule};
+pub use write::write_schedule;
+
+#[cfg(test)]
+mod tests;

@@ -1,6 +1,8 @@
-use Rattle.std.proofs.Common.{ap, Err}
-use Rattle.mm_run.proofs.Answering.{refused}
+use Rattle.mm_run.proofs.Answering.{if_ok, has_text, no_text}
 use Rattle.mm_run.proofs.answer.answer_whole.Goals as goal
 
-pub returns-in_ok-from_str-in-Err-NotBuilt : goal.returns-in_ok-from_str-in-Err-NotBuilt
-returns-in_ok-from_str-in-Err-NotBuilt c = refused c.args.settings c.args.input.now _ (c.in-Err-NotBuilt.ensures.not_built (ap Err c.in-Err-NotBuilt.field-0-is)) c.in_ok-from_str-in-Err-NotBuilt.ensures.ok
+pub returns-in-Ok : goal.returns-in-Ok
+returns-in-Ok c = if_ok _ _ _ c.answer_text.ensures (λ a h. has_text _ _ _ _ _ c.in-Ok.ensures.1 c.in-Ok.ensures.0 h)
+
+pub returns-in-Err : goal.returns-in-Err
+returns-in-Err c = if_ok _ _ _ c.refused.ensures (λ a h. no_text _ _ _ _ _ c.in-Err.ensures h.0 h.1)

@@ -1,0 +1,37 @@
+-- Which inputs are accepted whole, so that only a fault or want of memory keeps a command from its end.
+use Rattle.std.specs.Prelude.{◌≡◌, ℕ, List, Some}
+use Rattle.std.specs.Str.{IsUtf8}
+use Rattle.mm_goto.specs.Listing.{Listing}
+use Rattle.mm_sched.specs.declared.entry.Rules.{Rules}
+use Rattle.mm_sched.specs.declared.entry.Rules.TheVariants.{Sc, Buffered}
+use Rattle.mm_sched.specs.declared.schedule.Line.{Line}
+use Rattle.mm_sched.specs.State.{State, initial}
+use Rattle.mm_sched.specs.Runs.{run}
+use Rattle.mm_sched.specs.ScheduleText.{IsSchedule, entries_in}
+use Rattle.mm_parse.specs.SmallProgram.{IsSmallProgram}
+use Rattle.mm_run.specs.declared.command.Settings.{Settings}
+use Rattle.mm_run.specs.declared.command.Settings.TheVariants.{Instrument, ReplaySc, Replay}
+use Rattle.mm_run.specs.Parts.{IsSplit}
+
+-- a program and a schedule that is a run of it
+pub record IsRun (r : Rules) (input : List ℕ) : Type 0 where
+  pub program : List ℕ
+  pub schedule : List ℕ
+  pub listing : Listing
+  pub lines : List Line
+  pub last : State
+  pub split : IsSplit input program schedule
+  pub small : IsSmallProgram program listing
+  pub fits : IsSchedule schedule lines
+  pub runs : run r listing (initial listing) (entries_in lines) ≡ Some last
+
+-- the parts of the input are what the command asks for
+abbrev pub HasParts : Settings → List ℕ → Type 0
+HasParts (Instrument m bound) input = (p : Listing) × IsSmallProgram input p
+HasParts ReplaySc input = IsRun Sc input
+HasParts (Replay m bound) input = IsRun (Buffered m bound) input
+
+-- the input is a text whose parts are what the command asks for
+pub record IsAccepted (s : Settings) (input : List ℕ) : Type 0 where
+  pub text : IsUtf8 input
+  pub parts : HasParts s input

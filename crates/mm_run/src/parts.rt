@@ -1,0 +1,43 @@
+ghost use Rattle.std.specs.Prelude.{◌≡◌, ◌<◌, ◌≤◌, ◌^◌, ℕ, List, length, take, MatchOption, MatchResult, IsUtf8};
+ghost use Rattle.std.specs.Str.{IsValidUpTo};
+ghost use Rattle.mm_goto.specs.Place.{place_after};
+ghost use Rattle.mm_run.specs.Parts.{IsNotUtf8, IsSplit, LacksPart};
+
+use crate::input::MAX_INPUT;
+use mm_goto::At;
+
+/// The place behind the bytes, which are the front of a text.
+pub fn place_after(bytes: &[u8]) -> At
+    requires { length bytes.now ≤ MAX_INPUT }
+    ensures { result ≡ place_after bytes.now }
+{
+    let mut at = At::start();
+    for byte in bytes {
+        at = at.past(*byte);
+    }
+    at
+}
+
+/// The input as a text, or the place of its first byte that begins no character.
+pub fn text_of(input: &[u8]) -> Result<&str, At>
+    requires { length input.now ≤ MAX_INPUT }
+    ensures { MatchResult result (λ text. (text.now ≡ input.now) × IsUtf8 input.now) (IsNotUtf8 input.now) }
+{
+    match str::from_utf8(input) {
+        Ok(text) => Ok(text),
+        Err(fault) => Err(place_after(&input[..fault.valid_up_to()])),
+    }
+}
+
+/// The program and the schedule, which the first line `%%` parts.
+pub fn split(text: &str) -> Option<(&str, &str)>
+    ensures { MatchOption result (LacksPart text.now) (λ parts. IsSplit text.now parts.0.now parts.1.now) }
+{
+    if let Some(schedule) = text.strip_prefix("%%\n") {
+        return Some(("", schedule));
+    }
+    match text.split_once("\n%%\n") {
+        Some((program, schedule)) => Some((&text[..program.len() + 1], schedule)),
+        None => None,
+    }
+}

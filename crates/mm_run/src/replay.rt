@@ -1,0 +1,150 @@
+ghost use Rattle.std.specs.Prelude.{◌≡◌, ◌+◌, ◌<◌, ◌≤◌, ◌^◌, ℕ, List, length, codes, IfOk, IsUtf8, string_bytes};
+ghost use Rattle.mm_goto.specs.Listing.{Listing};
+ghost use Rattle.mm_goto.specs.Place.{place_after};
+ghost use Rattle.mm_parse.specs.SmallProgram.{IsSmallProgram};
+ghost use Rattle.mm_sched.specs.declared.entry.Rules.{Rules};
+ghost use Rattle.mm_sched.specs.Sections.{HasNoSection};
+ghost use Rattle.mm_sched.specs.State.{initial};
+ghost use Rattle.mm_sched.specs.ScheduleText.{IsFault, IsSchedule, entries_in};
+ghost use Rattle.mm_run.specs.Answer.{ReplaysParts};
+ghost use Rattle.mm_run.specs.Lines.{bad_line, refusal_line, stuck_line, verdict_line};
+ghost use Rattle.mm_run.specs.Replay.{Replays, rules_of};
+
+use crate::answer::{Answer, not_built, refused};
+use crate::input::MAX_INPUT;
+use crate::machine::{Machine, take_lines};
+use crate::parts::{place_after, split};
+use crate::status::Status;
+use mm_buf::Buf;
+use mm_goto::{Bound, Model, NoMemory, Program};
+use mm_parse::{SmallFault, parse_small};
+use mm_sc::Sc;
+use mm_sched::{Line, SchedFault, read_schedule};
+use std::alloc::Global;
+
+// The answer of a schedule that is a run.
+fn ended(alloc: Global, verdict: Option<u32>) -> Result<Answer, NoMemory>
+    ensures { IfOk result (λ answer. (answer.status ≡ Status.Done) × (string_bytes answer.output ≡ verdict_line verdict)) }
+{
+    let output = match verdict {
+        Some(n) => format!(in alloc; "failed {n}\n")?,
+        None => String::from_str(alloc, "no failure\n")?,
+    };
+    Ok(Answer {
+        status: Status::Done,
+        output,
+    })
+}
+
+// The answer where the entry, counted from 1, is the first that is not enabled.
+fn stuck(alloc: Global, entry: u32) -> Result<Answer, NoMemory>
+    ensures { IfOk result (λ answer. (answer.status ≡ Status.Stuck) × (string_bytes answer.output ≡ stuck_line entry)) }
+{
+    Ok(Answer {
+        status: Status::Stuck,
+        output: format!(in alloc; "stuck: entry {entry}\n")?,
+    })
+}
+
+// The answer where the line, counted from 1, is the first that does not fit.
+fn bad_schedule(alloc: Global, line: u32) -> Result<Answer, NoMemory>
+    ensures { IfOk result (λ answer. (answer.status ≡ Status.BadSchedule) × (string_bytes answer.output ≡ bad_line line)) }
+{
+    Ok(Answer {
+        status: Status::BadSchedule,
+        output: format!(in alloc; "bad schedule: line {line}\n")?,
+    })
+}
+
+// What the lines of a schedule do on a machine at the start.
+fn replay<M: Machine>(alloc: Global, machine: &mut M, lines: &[Line]) -> Result<Answer, NoMemory>
+    requires start { M.state machine.old ≡ initial (M.program machine.old) }
+    requires few { length (entries_in lines.now) + 1 < 2 ^ 32 }
+    ensures { IfOk result (λ answer. (text : List ℕ) → IsSchedule text lines.now → Replays (M.rules machine.old) (M.program machine.old) text answer.status (string_bytes answer.output)) }
+{
+    match take_lines(machine, lines) {
+        Ok(()) => ended(alloc, machine.verdict()),
+        Err(taken) => stuck(alloc, taken + 1),
+    }
+}
+
+/// How stores reach memory.
+#[derive(Clone, Copy, Debug, PartialEq, Eq)]
+pub enum Memory {
+    /// At once.
+    Direct,
+    /// By store buffers of the bound under the model.
+    Buffered(Model, Bound),
+}
+
+// What the lines of a schedule do where stores reach memory so.
+fn replay_on(
+    alloc: Global,
+    memory: Memory,
+    program: &Program,
+    lines: &[Line],
+) -> Result<Answer, NoMemory>
+    requires sections { HasNoSection program.now }
+    requires few { length (entries_in lines.now) + 1 < 2 ^ 32 }
+    ensures { IfOk result (λ answer. (text : List ℕ) → IsSchedule text lines.now → Replays (rules_of memory) program.now text answer.status (string_bytes answer.output)) }
+{
+    match memory {
+        Memory::Direct => {
+            let mut machine = Sc::new(alloc, program)?;
+            replay(alloc, &mut machine, lines)
+        }
+        Memory::Buffered(model, bound) => {
+            let mut machine = Buf::new(alloc, program, model, bound)?;
+            replay(alloc, &mut machine, lines)
+        }
+    }
+}
+
+// The answer where no schedule was read.
+fn unread(alloc: Global, fault: SchedFault) -> Result<Answer, NoMemory>
+    ensures { IfOk result (λ answer. (r : Rules) (p : Listing) (text : List ℕ) → IsFault text fault → Replays r p text answer.status (string_bytes answer.output)) }
+{
+    match fault {
+        SchedFault::BadLine(line) => bad_schedule(alloc, line),
+        SchedFault::NoMemory => Err(NoMemory),
+    }
+}
+
+// What the text of a schedule gives.
+fn replay_text(
+    alloc: Global,
+    memory: Memory,
+    program: &Program,
+    schedule: &str,
+) -> Result<Answer, NoMemory>
+    requires { HasNoSection program.now }
+    ensures { IfOk result (λ answer. Replays (rules_of memory) program.now schedule.now answer.status (string_bytes answer.output)) }
+{
+    match read_schedule(alloc, schedule) {
+        Ok(schedule) => replay_on(alloc, memory, program, schedule.lines.items()),
+        Err(fault) => unread(alloc, fault),
+    }
+}
+
+// The answer to an input that lacks the line `%%`.
+fn missing_part(alloc: Global, input: &str) -> Result<Answer, NoMemory>
+    requires { length input.now ≤ MAX_INPUT }
+    ensures { IfOk result (λ answer. (answer.status ≡ Status.Refused) × (string_bytes answer.output ≡ refusal_line (place_after input.now) (codes "missing part"))) }
+{
+    refused(alloc, place_after(input.as_bytes()), "missing part")
+}
+
+/// The answer to a program and a schedule where stores reach memory so.
+pub fn answer_replay(alloc: Global, memory: Memory, input: &str) -> Result<Answer, NoMemory>
+    requires { length input.now ≤ MAX_INPUT }
+    ensures { IfOk result (λ answer. ReplaysParts (rules_of memory) input.now answer.status (string_bytes answer.output)) }
+{
+    match split(input) {
+        Some((program, schedule)) => match parse_small(alloc, program.as_bytes()) {
+            Ok(program) => replay_text(alloc, memory, &program, schedule),
+            Err(SmallFault::NotBuilt) => not_built(alloc),
+            Err(SmallFault::NoMemory) => Err(NoMemory),
+        },
+        None => missing_part(alloc, input),
+    }
+}

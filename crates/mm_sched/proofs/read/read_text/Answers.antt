@@ -1,0 +1,26 @@
+use Rattle.std.proofs.Common.{◌≡◌, Some, rules}
+use Rattle.mm_sched.specs.ScheduleText.{newline}
+use Rattle.mm_sched.specs.Reading.{cut, next}
+use Rattle.mm_sched.proofs.Cutting.{cut_in}
+use Rattle.mm_sched.proofs.InTime.{in_time}
+use Rattle.mm_sched.proofs.ReadingLoop.{line_passed, line_refused, text_broken, behind_shorter}
+use Rattle.mm_sched.proofs.read.read_text.Goals as goal
+
+pub returns-in_default-next : goal.returns-in_default-next
+returns-in_default-next c =
+    let is : cut newline c.loop-line.rest.now ≡ Some (cut_in c.in-Some.line.now c.in-Some.behind.now) = c.in-Some.ensures in
+    line_refused c.loop-line.lines.items c.loop-line.stage c.loop-line.number c.loop-line.rest.now (cut_in c.in-Some.line.now c.in-Some.behind.now) _ is (cc) c.loop-line.invariant.0
+
+pub loop-line-smaller : goal.loop-line-smaller
+loop-line-smaller c = behind_shorter c.loop-line.rest.now (cut_in c.in-Some.line.now c.in-Some.behind.now) c.in-Some.ensures
+
+pub loop-line-preserved : goal.loop-line-preserved
+loop-line-preserved c =
+    let fits : next c.loop-line.stage c.in-Some.line.now ≡ Some c.in-Some-next.passed = cc in (
+      rw c.in_ok-put.ensures.ok (line_passed c.loop-line.lines.items c.loop-line.stage c.loop-line.number c.loop-line.rest.now (cut_in c.in-Some.line.now c.in-Some.behind.now) c.in-Some-next.passed _ c.in-Some.ensures fits c.loop-line.invariant.0),
+      in_time c.loop-line.stage c.in-Some.line.now c.in-Some-next.passed c.loop-line.number c.loop-line.invariant.1 fits,
+      search rules,
+    )
+
+pub returns-else-is_ended : goal.returns-else-is_ended
+returns-else-is_ended c = text_broken c.loop-line.lines.items c.loop-line.stage c.loop-line.number c.loop-line.rest.now _ c.in_default.ensures (cc) c.loop-line.invariant.0
