@@ -1,5 +1,5 @@
 //! The machines on store buffering, a program that no text reaches yet.
-ghost use Rattle.std.specs.Prelude.{◌≡◌, pos, length, IfOk};
+ghost use Rattle.std.specs.Prelude.{◌≡◌, length, IfOk};
 ghost use Rattle.mm_goto.specs.Terms.{constant, the_local};
 ghost use Rattle.mm_sched.specs.Sections.{HasNoSection};
 ghost use Rattle.mm_examples.specs.StoreBuffering.{zero_cell, is_zero, not_local, truth, writes_and_reads, main_code, thread_of};

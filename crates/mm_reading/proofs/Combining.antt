@@ -353,3 +353,11 @@ reads_token {T = T} {A = A} n P C f t a e p = reads_peek n P C (token_at f) (λ 
     branch : (h : Option T) → Branch n P C (token_at f) (λ h m. token_at f h) h
     branch None = fails refl (λ m. refl)
     branch (Some u) = by_value u (f u) refl
+
+-- a family that differs at the bound 0 alone
+pub example_switch : {T A : Type 0} (P C : Option T → Type 0) (q q' : Family T A) → ((m : ℕ) → q' (suc m) ≡ q (suc m)) → Example P C q → Example P C q'
+example_switch {T = T} {A = A} P C q q' e x = record { more = x.more; value = x.value; starts = x.starts; fits = λ tail c m l. other m (x.more ++ tail) (Parsed x.value tail) l (x.fits tail c) }
+  where
+    other : (m : ℕ) (xs : List T) (o : Outcome T A) → length xs < m → ((k : ℕ) → length xs < k → q k xs ≡ o) → q' m xs ≡ o
+    other zero xs o l h = absurd (omega arith)
+    other (suc m) xs o l h = ap (λ (s : Parser T A). s xs) (e m) ∙ h (suc m) l

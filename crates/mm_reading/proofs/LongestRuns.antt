@@ -1,7 +1,7 @@
 -- A parser that is sound and complete for a language reads the longest run of tokens that begins a value.
 use Rattle.std.proofs.Common.{◌≡◌, ℕ, ◌+◌, ◌<◌, ◌≤◌, List, [], ◌∷◌, ◌++◌, length, length-append, append_assoc, arith, Option, Some, None, refl, sym, ◌∙◌, ap, subst, ◌⊎◌, inl, inr}
 use Rattle.mm_reading.specs.Parsing.{Outcome, Parsed, Fault, head}
-use Rattle.mm_reading.specs.Runs.{Begins, IsRead, IsFirstFault}
+use Rattle.mm_reading.specs.Runs.{Begins, IsLongestRun, IsRead, IsFirstFault}
 use Rattle.mm_reading.proofs.Combining.{Family, At, Read, Broken}
 use Rattle.mm_reading.proofs.Onwards.{Onward, Extends}
 
@@ -86,3 +86,32 @@ module _ {T A : Type 0} (L : List T → A → Type 0) (P C : Option T → Type 0
   -- where it gives a fault, the longest run is no value, and the fault stands behind it
   pub fault_is_first : (n : ℕ) (ts rest : List T) → At q P C (q n ts) ts → q n ts ≡ Fault rest → IsFirstFault L ts rest
   fault_is_first n ts rest h e = fault_run ts rest (subst (λ (o : Outcome T A). At q P C o ts) e h)
+
+-- ---- more tokens
+
+begins_shorter : {T A : Type 0} (L : List T → A → Type 0) (run more : List T) → Begins L (run ++ more) → Begins L run
+begins_shorter L run more b = (more ++ b.0, b.1, subst (λ xs. L xs b.1) (append_assoc run more b.0) b.2)
+
+longest_before : {T A : Type 0} (L : List T → A → Type 0) (ts run rest more : List T) → (rest ≡ [] → more ≡ []) → IsLongestRun L ts run rest → IsLongestRun L (ts ++ more) run (rest ++ more)
+longest_before {T = T} L ts run rest more cut h = record {
+  parts = sym (append_assoc run rest more) ∙ ap (λ xs. xs ++ more) h.parts;
+  begins = h.begins;
+  longest = λ longer after e b. no_longer longer after run (rest ++ more) (e ∙ ap (λ xs. xs ++ more) (sym h.parts) ∙ append_assoc run rest more) (λ t xs k s. one_more rest cut h.parts h.longest t xs s (begins_shorter L (run ++ (t ∷ [])) xs (subst (λ (ys : List T). Begins L ys) (k ∙ sym (append_assoc run (t ∷ []) xs)) b)));
+}
+  where
+    one_more : (rest : List T) → (rest ≡ [] → more ≡ []) → run ++ rest ≡ ts → ((longer after : List T) → longer ++ after ≡ ts → Begins L longer → length longer ≤ length run) → (t : T) (xs : List T) → Some t ≡ head (rest ++ more) → Begins L (run ++ (t ∷ [])) → ⊥
+    one_more [] cut parts longest t xs s b = subst (λ (ys : List T). Some t ≡ head ys → ⊥) (sym (cut refl)) (λ e. cc) s
+    one_more (r ∷ rest) cut parts longest t xs s b =
+        let e : (run ++ (t ∷ [])) ++ rest ≡ ts = append_assoc run (t ∷ []) rest ∙ ap (λ u. run ++ (u ∷ rest)) (same s) ∙ parts in
+        let l : length (run ++ (t ∷ [])) ≤ length run = longest (run ++ (t ∷ [])) rest e b in
+        omega (arith, length-append run (t ∷ []))
+      where
+        same : {u r : T} → Some u ≡ Some r → u ≡ r
+        same e = cc
+
+-- what is read of some tokens is read of more tokens too, where something is left
+pub read_before : {T A : Type 0} (L : List T → A → Type 0) (ts : List T) (a : A) (rest more : List T) → (rest ≡ [] → more ≡ []) → IsRead L ts a rest → IsRead L (ts ++ more) a (rest ++ more)
+read_before L ts a rest more cut h = record { run = h.run; is_longest = longest_before L ts h.run rest more cut h.is_longest; value = h.value }
+
+pub fault_before : {T A : Type 0} (L : List T → A → Type 0) (ts rest more : List T) → (rest ≡ [] → more ≡ []) → IsFirstFault L ts rest → IsFirstFault L (ts ++ more) (rest ++ more)
+fault_before L ts rest more cut h = record { run = h.run; is_longest = longest_before L ts h.run rest more cut h.is_longest; none = h.none }

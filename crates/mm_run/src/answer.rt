@@ -1,4 +1,4 @@
-ghost use Rattle.std.specs.Prelude.{◌≡◌, ◌≤◌, ◌+◌, ℕ, List, length, codes, IfOk, IsUtf8, string_bytes};
+ghost use Rattle.std.specs.Prelude.{◌≡◌, ◌≤◌, ℕ, List, length, codes, IfOk, string_bytes};
 ghost use Rattle.mm_goto.specs.Place.{start};
 ghost use Rattle.mm_goto.specs.Valid.{IsValid};
 ghost use Rattle.mm_parse.specs.SmallProgram.{IsSmallProgram};

@@ -1,5 +1,5 @@
-ghost use Rattle.std.specs.Prelude.{◌≡◌, ◌+◌, ◌<◌, ◌≤◌, ◌^◌, ℕ, List, length, map, replicate, Some, None, MatchResult, IfOk, string_bytes};
-ghost use Rattle.mm_sched.specs.State.{State, initial};
+ghost use Rattle.std.specs.Prelude.{◌≡◌, ◌+◌, ◌<◌, ◌^◌, length, replicate, Some, MatchResult};
+ghost use Rattle.mm_sched.specs.State.{State};
 ghost use Rattle.mm_sched.specs.Event.{next};
 ghost use Rattle.mm_sched.specs.Runs.{run};
 ghost use Rattle.mm_sched.specs.ScheduleText.{entries_in};

@@ -1,5 +1,4 @@
-ghost use Rattle.std.specs.Prelude.{◌≡◌, ◌<◌, ◌≤◌, ◌^◌, ℕ, List, length, take, MatchOption, MatchResult, IsUtf8};
-ghost use Rattle.std.specs.Str.{IsValidUpTo};
+ghost use Rattle.std.specs.Prelude.{◌≡◌, ◌<◌, ◌≤◌, length, MatchOption, MatchResult, IsUtf8};
 ghost use Rattle.mm_goto.specs.Place.{place_after};
 ghost use Rattle.mm_run.specs.Parts.{IsNotUtf8, IsSplit, LacksPart};
 

@@ -1,7 +1,6 @@
-ghost use Rattle.std.specs.Prelude.{◌≡◌, ◌+◌, ◌<◌, ◌≤◌, ◌^◌, ℕ, List, length, codes, IfOk, IsUtf8, string_bytes};
+ghost use Rattle.std.specs.Prelude.{◌≡◌, ◌+◌, ◌<◌, ◌≤◌, ◌^◌, ℕ, List, length, codes, IfOk, string_bytes};
 ghost use Rattle.mm_goto.specs.Listing.{Listing};
 ghost use Rattle.mm_goto.specs.Place.{place_after};
-ghost use Rattle.mm_parse.specs.SmallProgram.{IsSmallProgram};
 ghost use Rattle.mm_sched.specs.declared.entry.Rules.{Rules};
 ghost use Rattle.mm_sched.specs.Sections.{HasNoSection};
 ghost use Rattle.mm_sched.specs.State.{initial};

@@ -1,4 +1,4 @@
-ghost use Rattle.std.specs.Prelude.{◌≡◌, ◌≢◌, ◌↔◌, ◌≤◌, length, map, string_bytes, IfOk, IfSome, None, IsErrOf, OnErr, OnOk};
+ghost use Rattle.std.specs.Prelude.{◌≡◌, ◌≢◌, ◌↔◌, ◌≤◌, length, map, string_bytes, IfOk, IfSome, None, IsErrOf, OnOk};
 ghost use Rattle.mm_port.specs.Port.{Rose};
 ghost use Rattle.mm_run.specs.Answer.{Responds, Ends, WritesNothing, IsDoneOrKept, IsOfInput};
 ghost use Rattle.mm_run.specs.Accepted.{IsAccepted};

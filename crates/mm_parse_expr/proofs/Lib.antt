@@ -1,0 +1,9 @@
+pub mod Ends
+pub mod ExprComplete
+pub mod ExprOnward
+pub mod ExprReading
+pub mod ExprRuns
+pub mod ExprSound
+pub mod Follow
+pub mod Operators
+pub mod Windows

@@ -1,0 +1,17 @@
+//! Reading expressions.
+#![tactic(auto)]
+
+mod fault;
+pub mod laws;
+mod parse;
+mod reading;
+mod symbol;
+mod terminal;
+#[cfg(test)]
+mod tests;
+
+pub use fault::{ParseFault, fault_at};
+pub use parse::{DEPTH, TOKENS, parse_expr, parse_unary};
+pub use reading::{read_expr, read_unary};
+pub use symbol::{Keyword, MARKS, Symbol, WORDS, symbol_of};
+pub use terminal::{Spelling, Terminal, terminals};

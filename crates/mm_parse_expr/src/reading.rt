@@ -1,0 +1,485 @@
+//! Recursive descent.
+ghost use Rattle.std.specs.Prelude.{◌≡◌, IfOk, MatchOption};
+ghost use Rattle.mm_reading.specs.Gives.{Gives, GivesUnit};
+ghost use Rattle.mm_parse_expr.specs.Grammar as grammar;
+ghost use Rattle.mm_parse_expr.specs.Reading as spec;
+
+use crate::symbol::Symbol;
+use crate::terminal::Terminal;
+use mm_goto::{At, Binary, Ident, NoMemory, Unary};
+use mm_reading::Refused;
+use mm_tree::{Expr, Node, Word};
+use sqlite_items::Boxed;
+use std::alloc::Global;
+
+#[tactic(auto, unfolding(crate::specs::Reading::close, mm_reading::specs::Parsing::token, mm_reading::specs::Parsing::peek, mm_reading::specs::Parsing::skip, mm_reading::specs::Parsing::pure, mm_reading::specs::Parsing::fail))]
+fn read_close<'a>(ts: &'a [Terminal<'a>]) -> Result<&'a [Terminal<'a>], Refused>
+    ensures { GivesUnit result (spec.close ts.now) }
+{
+    match ts {
+        [
+            Terminal {
+                symbol: Symbol::Close,
+                ..
+            },
+            rest @ ..,
+        ] => Ok(rest),
+        _ => Err(Refused::Fault(ts.len())),
+    }
+}
+
+#[tactic(auto, unfolding(crate::specs::Reading::name_word, mm_reading::specs::Parsing::token, mm_reading::specs::Parsing::peek, mm_reading::specs::Parsing::skip, mm_reading::specs::Parsing::pure, mm_reading::specs::Parsing::fail))]
+fn read_name<'a>(
+    alloc: Global,
+    ts: &'a [Terminal<'a>],
+) -> Result<(Word, &'a [Terminal<'a>]), Refused>
+    ensures { Gives result (spec.name_word ts.now) }
+{
+    match ts {
+        [
+            Terminal {
+                symbol: Symbol::Name,
+                at,
+                spelling,
+            },
+            rest @ ..,
+        ] => {
+            let name = Ident::copy_of(alloc, spelling.text())?;
+            Ok((Word { at: *at, name }, rest))
+        }
+        _ => Err(Refused::Fault(ts.len())),
+    }
+}
+
+/// How loosely a binary operator binds, from 0 on.
+fn looseness(op: Binary) -> u32
+    ensures { result ≡ grammar.looseness op }
+{
+    match op {
+        Binary::Mul | Binary::Div | Binary::Rem => 0,
+        Binary::Add | Binary::Sub => 1,
+        Binary::Shl | Binary::Shr => 2,
+        Binary::Lt | Binary::Le | Binary::Gt | Binary::Ge => 3,
+        Binary::Eq | Binary::Ne => 4,
+        Binary::And => 5,
+        Binary::Xor => 6,
+        Binary::Or => 7,
+        Binary::Land => 8,
+        Binary::Lor => 9,
+    }
+}
+
+/// The number that a symbol is, and 0 for any other.
+fn number_in(symbol: Symbol) -> i32
+    ensures { result ≡ spec.number_in symbol }
+{
+    match symbol {
+        Symbol::Number(n) => n,
+        _ => 0,
+    }
+}
+
+fn joins(level: u32, symbol: Symbol) -> Option<Binary>
+    ensures { result ≡ spec.joins level symbol }
+{
+    match symbol {
+        Symbol::Operator(op) if looseness(op) == level => Some(op),
+        _ => None,
+    }
+}
+
+/// The next operator where it is of this looseness, and what stands behind it.
+fn next_operator<'a>(level: u32, ts: &'a [Terminal<'a>]) -> Option<(Binary, &'a [Terminal<'a>])>
+    ensures { MatchOption result (spec.HasNoOperator level ts.now) (λ x. spec.HasOperator level ts.now x.0 x.1.now) }
+{
+    match ts {
+        [first, rest @ ..] => match joins(level, first.symbol) {
+            Some(op) => Some((op, rest)),
+            None => None,
+        },
+        [] => None,
+    }
+}
+
+fn binary_tree(alloc: Global, op: Binary, a: Expr, b: Expr) -> Result<Expr, NoMemory>
+    ensures { IfOk result (λ e. e ≡ grammar.binary_tree op a b) }
+{
+    let at = a.at;
+    let node = Node::Bin(op, Boxed::new(alloc, a)?, Boxed::new(alloc, b)?);
+    Ok(Expr { at, node })
+}
+
+fn choice_tree(alloc: Global, c: Expr, a: Expr, b: Expr) -> Result<Expr, NoMemory>
+    ensures { IfOk result (λ e. e ≡ grammar.choice_tree c a b) }
+{
+    let at = c.at;
+    let node = Node::Cond(
+        Boxed::new(alloc, c)?,
+        Boxed::new(alloc, a)?,
+        Boxed::new(alloc, b)?,
+    );
+    Ok(Expr { at, node })
+}
+
+fn element_tree(alloc: Global, at: At, name: &str, index: Option<Expr>) -> Result<Expr, NoMemory>
+    ensures { IfOk result (λ e. e ≡ spec.element_tree at name.now index) }
+{
+    let name = Ident::copy_of(alloc, name)?;
+    let node = match index {
+        Some(index) => Node::Index(name, Boxed::new(alloc, index)?),
+        None => Node::Name(name),
+    };
+    Ok(Expr { at, node })
+}
+
+fn address_tree(alloc: Global, at: At, name: Word, index: Option<Expr>) -> Result<Expr, NoMemory>
+    ensures { IfOk result (λ e. e ≡ spec.address_tree at name index) }
+{
+    let node = match index {
+        Some(index) => Node::AddrIndex(name, Boxed::new(alloc, index)?),
+        None => Node::AddrName(name),
+    };
+    Ok(Expr { at, node })
+}
+
+#[tactic(auto, unfolding(crate::specs::Reading::close_bracket, mm_reading::specs::Parsing::token, mm_reading::specs::Parsing::peek, mm_reading::specs::Parsing::skip, mm_reading::specs::Parsing::pure, mm_reading::specs::Parsing::fail))]
+fn read_close_bracket<'a>(ts: &'a [Terminal<'a>]) -> Result<&'a [Terminal<'a>], Refused>
+    ensures { GivesUnit result (spec.close_bracket ts.now) }
+{
+    match ts {
+        [
+            Terminal {
+                symbol: Symbol::CloseBracket,
+                ..
+            },
+            rest @ ..,
+        ] => Ok(rest),
+        _ => Err(Refused::Fault(ts.len())),
+    }
+}
+
+#[tactic(auto, unfolding(crate::specs::Reading::colon, mm_reading::specs::Parsing::token, mm_reading::specs::Parsing::peek, mm_reading::specs::Parsing::skip, mm_reading::specs::Parsing::pure, mm_reading::specs::Parsing::fail))]
+fn read_colon<'a>(ts: &'a [Terminal<'a>]) -> Result<&'a [Terminal<'a>], Refused>
+    ensures { GivesUnit result (spec.colon ts.now) }
+{
+    match ts {
+        [
+            Terminal {
+                symbol: Symbol::Colon,
+                ..
+            },
+            rest @ ..,
+        ] => Ok(rest),
+        _ => Err(Refused::Fault(ts.len())),
+    }
+}
+
+#[cycle(reading)]
+#[tactic(auto, unfolding(crate::specs::Reading::index, mm_reading::specs::Parsing::peek, mm_reading::specs::Parsing::skip, mm_reading::specs::Parsing::pure))]
+fn read_index<'a>(
+    alloc: Global,
+    bound: usize,
+    depth: u32,
+    ts: &'a [Terminal<'a>],
+) -> Result<(Option<Expr>, &'a [Terminal<'a>]), Refused>
+    ensures { Gives result (spec.index (spec.lower bound) ts.now) }
+{
+    match ts {
+        [
+            Terminal {
+                symbol: Symbol::OpenBracket,
+                ..
+            },
+            rest @ ..,
+        ] => {
+            let (index, rest) = read_expr(alloc, bound, depth, rest)?;
+            let rest = read_close_bracket(rest)?;
+            Ok((Some(index), rest))
+        }
+        _ => Ok((None, ts)),
+    }
+}
+
+#[cycle(reading)]
+#[tactic(auto, unfolding(crate::specs::Reading::primary, mm_reading::specs::Parsing::peek, mm_reading::specs::Parsing::skip, mm_reading::specs::Parsing::pure, mm_reading::specs::Parsing::fail))]
+fn read_primary<'a>(
+    alloc: Global,
+    bound: usize,
+    depth: u32,
+    ts: &'a [Terminal<'a>],
+) -> Result<(Expr, &'a [Terminal<'a>]), Refused>
+    ensures { Gives result (spec.primary (spec.lower bound) ts.now) }
+{
+    match ts {
+        [
+            Terminal {
+                symbol: symbol @ Symbol::Number(_),
+                at,
+                ..
+            },
+            rest @ ..,
+        ] => {
+            let node = Node::Number(number_in(*symbol));
+            Ok((Expr { at: *at, node }, rest))
+        }
+        [
+            Terminal {
+                symbol: Symbol::Null,
+                at,
+                ..
+            },
+            rest @ ..,
+        ] => {
+            let node = Node::Null;
+            Ok((Expr { at: *at, node }, rest))
+        }
+        [
+            Terminal {
+                symbol: Symbol::Name,
+                at,
+                spelling,
+            },
+            rest @ ..,
+        ] => {
+            let (index, rest) = read_index(alloc, bound, depth, rest)?;
+            Ok((element_tree(alloc, *at, spelling.text(), index)?, rest))
+        }
+        [
+            Terminal {
+                symbol: Symbol::Open,
+                ..
+            },
+            rest @ ..,
+        ] => {
+            let (inner, rest) = read_expr(alloc, bound, depth, rest)?;
+            let rest = read_close(rest)?;
+            Ok((inner, rest))
+        }
+        _ => Err(Refused::Fault(ts.len())),
+    }
+}
+
+#[cycle(reading)]
+#[tactic(auto, unfolding(crate::specs::Reading::signed, mm_reading::specs::Parsing::pure))]
+fn read_signed<'a>(
+    alloc: Global,
+    bound: usize,
+    depth: u32,
+    at: At,
+    op: Unary,
+    ts: &'a [Terminal<'a>],
+) -> Result<(Expr, &'a [Terminal<'a>]), Refused>
+    ensures { Gives result (spec.signed (spec.lower bound) at op ts.now) }
+{
+    let (operand, rest) = read_unary(alloc, bound, depth, ts)?;
+    let node = Node::Un(op, Boxed::new(alloc, operand)?);
+    Ok((Expr { at, node }, rest))
+}
+
+#[cycle(reading)]
+#[tactic(auto, unfolding(crate::specs::Reading::pointed, mm_reading::specs::Parsing::pure))]
+fn read_pointed<'a>(
+    alloc: Global,
+    bound: usize,
+    depth: u32,
+    at: At,
+    ts: &'a [Terminal<'a>],
+) -> Result<(Expr, &'a [Terminal<'a>]), Refused>
+    ensures { Gives result (spec.pointed (spec.lower bound) at ts.now) }
+{
+    let (pointer, rest) = read_unary(alloc, bound, depth, ts)?;
+    let node = Node::Deref(Boxed::new(alloc, pointer)?);
+    Ok((Expr { at, node }, rest))
+}
+
+#[cycle(reading)]
+#[tactic(auto, unfolding(crate::specs::Reading::address, mm_reading::specs::Parsing::pure))]
+fn read_address<'a>(
+    alloc: Global,
+    bound: usize,
+    depth: u32,
+    at: At,
+    ts: &'a [Terminal<'a>],
+) -> Result<(Expr, &'a [Terminal<'a>]), Refused>
+    ensures { Gives result (spec.address (spec.lower bound) at ts.now) }
+{
+    let (name, rest) = read_name(alloc, ts)?;
+    let (index, rest) = read_index(alloc, bound, depth, rest)?;
+    Ok((address_tree(alloc, at, name, index)?, rest))
+}
+
+/// A unary expression. It wants memory where `depth` is 0, and `bound` is above the number of tokens.
+#[cycle(reading)]
+#[tactic(auto, unfolding(crate::specs::Reading::lower, crate::specs::Reading::unary, crate::specs::Reading::primary, mm_reading::specs::Parsing::peek, mm_reading::specs::Parsing::skip, mm_reading::specs::Parsing::fail))]
+pub fn read_unary<'a>(
+    alloc: Global,
+    bound: usize,
+    depth: u32,
+    ts: &'a [Terminal<'a>],
+) -> Result<(Expr, &'a [Terminal<'a>]), Refused>
+    ensures { Gives result (spec.unary_of (spec.lower bound) ts.now) }
+{
+    if depth == 0 {
+        return Err(Refused::Memory);
+    }
+    if bound == 0 {
+        return Err(Refused::Fault(ts.len()));
+    }
+    read_open_unary(alloc, bound - 1, depth - 1, ts)
+}
+
+#[cycle(reading)]
+#[tactic(auto, unfolding(crate::specs::Reading::unary, crate::specs::Reading::primary, mm_reading::specs::Parsing::peek, mm_reading::specs::Parsing::skip, mm_reading::specs::Parsing::fail))]
+fn read_open_unary<'a>(
+    alloc: Global,
+    bound: usize,
+    depth: u32,
+    ts: &'a [Terminal<'a>],
+) -> Result<(Expr, &'a [Terminal<'a>]), Refused>
+    ensures { Gives result (spec.unary (spec.lower bound) ts.now) }
+{
+    match ts {
+        [
+            Terminal {
+                symbol: Symbol::Operator(Binary::Sub),
+                at,
+                ..
+            },
+            rest @ ..,
+        ] => { read_signed(alloc, bound, depth, *at, Unary::Neg, rest) }
+        [
+            Terminal {
+                symbol: Symbol::Operator(Binary::Add),
+                at,
+                ..
+            },
+            rest @ ..,
+        ] => { read_signed(alloc, bound, depth, *at, Unary::Plus, rest) }
+        [
+            Terminal {
+                symbol: Symbol::Not,
+                at,
+                ..
+            },
+            rest @ ..,
+        ] => { read_signed(alloc, bound, depth, *at, Unary::Not, rest) }
+        [
+            Terminal {
+                symbol: Symbol::Flip,
+                at,
+                ..
+            },
+            rest @ ..,
+        ] => { read_signed(alloc, bound, depth, *at, Unary::Flip, rest) }
+        [
+            Terminal {
+                symbol: Symbol::Operator(Binary::Mul),
+                at,
+                ..
+            },
+            rest @ ..,
+        ] => { read_pointed(alloc, bound, depth, *at, rest) }
+        [
+            Terminal {
+                symbol: Symbol::Operator(Binary::And),
+                at,
+                ..
+            },
+            rest @ ..,
+        ] => { read_address(alloc, bound, depth, *at, rest) }
+        _ => read_primary(alloc, bound, depth, ts),
+    }
+}
+
+#[cycle(reading)]
+#[tactic(auto, unfolding(crate::specs::Reading::level, crate::specs::Reading::more))]
+fn read_level<'a>(
+    alloc: Global,
+    bound: usize,
+    depth: u32,
+    level: u32,
+    ts: &'a [Terminal<'a>],
+) -> Result<(Expr, &'a [Terminal<'a>]), Refused>
+    ensures { Gives result (spec.level (spec.lower bound) level ts.now) }
+{
+    if level == 0 {
+        return read_open_unary(alloc, bound, depth, ts);
+    }
+    let (first, rest) = read_level(alloc, bound, depth, level - 1, ts)?;
+    read_more(alloc, bound, depth, level - 1, first, rest)
+}
+
+#[cycle(reading)]
+#[tactic(auto, unfolding(crate::specs::Reading::lower, mm_reading::specs::Parsing::pure))]
+fn read_more<'a>(
+    alloc: Global,
+    bound: usize,
+    depth: u32,
+    level: u32,
+    first: Expr,
+    ts: &'a [Terminal<'a>],
+) -> Result<(Expr, &'a [Terminal<'a>]), Refused>
+    ensures { Gives result (spec.more (spec.lower bound) level first ts.now) }
+{
+    let Some((op, rest)) = next_operator(level, ts) else {
+        return Ok((first, ts));
+    };
+    if depth == 0 {
+        return Err(Refused::Memory);
+    }
+    let (second, rest) = read_level(alloc, bound, depth, level, rest)?;
+    let joined = binary_tree(alloc, op, first, second)?;
+    if bound == 0 {
+        return Ok((joined, rest));
+    }
+    read_more(alloc, bound - 1, depth - 1, level, joined, rest)
+}
+
+#[cycle(reading)]
+#[tactic(auto, unfolding(crate::specs::Reading::choice, mm_reading::specs::Parsing::peek, mm_reading::specs::Parsing::skip, mm_reading::specs::Parsing::pure))]
+fn read_choice<'a>(
+    alloc: Global,
+    bound: usize,
+    depth: u32,
+    test: Expr,
+    ts: &'a [Terminal<'a>],
+) -> Result<(Expr, &'a [Terminal<'a>]), Refused>
+    ensures { Gives result (spec.choice (spec.lower bound) test ts.now) }
+{
+    match ts {
+        [
+            Terminal {
+                symbol: Symbol::Question,
+                ..
+            },
+            rest @ ..,
+        ] => {
+            let (then, rest) = read_expr(alloc, bound, depth, rest)?;
+            let rest = read_colon(rest)?;
+            let (other, rest) = read_expr(alloc, bound, depth, rest)?;
+            Ok((choice_tree(alloc, test, then, other)?, rest))
+        }
+        _ => Ok((test, ts)),
+    }
+}
+
+/// An expression. It wants memory where `depth` is 0, and `bound` is above the number of tokens.
+#[cycle(reading)]
+#[tactic(auto, unfolding(crate::specs::Reading::lower, crate::specs::Reading::expr, mm_reading::specs::Parsing::fail))]
+pub fn read_expr<'a>(
+    alloc: Global,
+    bound: usize,
+    depth: u32,
+    ts: &'a [Terminal<'a>],
+) -> Result<(Expr, &'a [Terminal<'a>]), Refused>
+    ensures { Gives result (spec.expr_of (spec.lower bound) ts.now) }
+{
+    if depth == 0 {
+        return Err(Refused::Memory);
+    }
+    if bound == 0 {
+        return Err(Refused::Fault(ts.len()));
+    }
+    let (test, rest) = read_level(alloc, bound - 1, depth - 1, 10, ts)?;
+    read_choice(alloc, bound - 1, depth - 1, test, rest)
+}
