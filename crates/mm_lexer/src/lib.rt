@@ -3,6 +3,7 @@
 
 mod class;
 mod front;
+pub mod laws;
 mod lexing;
 mod piece;
 mod place;
