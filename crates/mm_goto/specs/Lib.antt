@@ -1,6 +1,12 @@
+pub mod Checks
+pub mod Flow
+pub mod Kinds
 pub mod Listing
 pub mod Locals
+pub mod Names
+pub mod Parts
 pub mod Place
+pub mod Sourcelike
 pub mod Terms
 pub mod Valid
 pub mod Value

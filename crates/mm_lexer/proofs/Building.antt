@@ -21,7 +21,8 @@ use Rattle.mm_lexer.specs.declared.token.TokenKind.{TokenKind}
 use Rattle.mm_lexer.specs.declared.token.TokenKind.TheVariants.{Name, Number, Text, Mark}
 use Rattle.mm_lexer.specs.declared.piece.Piece.{Piece}
 use Rattle.mm_lexer.specs.declared.piece.Piece.TheVariants.{Gap, Token, Bad, TooLarge}
-use Rattle.mm_lexer.specs.Class.{is_blank, is_space, is_name, is_name_start, is_name_char, is_text_char, is_in, radix}
+use Rattle.mm_goto.specs.Names.{is_name, is_name_start, is_name_char}
+use Rattle.mm_lexer.specs.Class.{is_blank, is_space, is_text_char, is_in, radix}
 use Rattle.mm_lexer.specs.Marks.{is_single, mark_len}
 use Rattle.mm_lexer.specs.Piece.{number_in, number, base_of, lead_len, digits_len, value_of, quoted, mark_of, closing, line_comment, comment, is_include, hash, piece_at}
 use Rattle.mm_lexer.specs.Lexemes.{Lexeme, head_after, Spells}

@@ -9,7 +9,8 @@ use Rattle.std.proofs.lemmas.Bool.Decides.{nat_tests}
 use Rattle.unicode_ident.proofs.IdentLemmas.{is_xid_start-ascii, is_xid_continue-ascii}
 use Rattle.mm_lexer.specs.declared.class.Base.{Base}
 use Rattle.mm_lexer.specs.declared.class.Base.TheVariants.{Octal, Decimal, Hexadecimal}
-use Rattle.mm_lexer.specs.Class.{is_space, is_name, is_text_char, is_name_start, is_name_char, radix}
+use Rattle.mm_goto.specs.Names.{is_name, is_name_start, is_name_char}
+use Rattle.mm_lexer.specs.Class.{is_space, is_text_char, radix}
 use Rattle.mm_lexer.specs.Marks.{is_one_of, singles, is_single}
 
 -- ---- below 128

@@ -5,3 +5,4 @@ pub mod Pieces
 pub mod Reading
 pub mod Spans
 pub mod Unique
+pub mod Quotes

@@ -13,14 +13,16 @@ use Rattle.mm_lexer.specs.declared.place.Place.{Place}
 use Rattle.mm_lexer.specs.declared.piece.Piece.TheVariants as piece
 use Rattle.mm_lexer.specs.declared.token.Token.{Token}
 use Rattle.mm_lexer.specs.declared.token.TokenKind.{TokenKind}
+use Rattle.mm_lexer.specs.declared.token.TokenKind.TheVariants.{Text}
 use Rattle.mm_lexer.specs.Class.{is_blank}
 use Rattle.mm_lexer.specs.Place.{start, past, past_all}
 use Rattle.mm_lexer.specs.Piece.{piece_at}
-use Rattle.mm_lexer.specs.Tokens.{token_at, bytes_of, IsSpan, AreInOrder, Reads, AreTokens, IsFirstFault}
+use Rattle.mm_lexer.specs.Tokens.{token_at, bytes_of, IsQuoted, IsSpan, AreInOrder, Reads, AreTokens, IsFirstFault}
 use Rattle.mm_lexer.specs.declared.token.LexFault.{LexFault}
 use Rattle.mm_lexer.specs.declared.token.LexFault.TheVariants.{BadToken, NumberTooLarge, NoMemory}
 use Rattle.mm_lexer.specs.Lexemes.{Lexeme, lexeme_of, head_after, Spells}
 use Rattle.mm_lexer.proofs.Pieces.{token_shorter}
+use Rattle.mm_lexer.proofs.Quotes.{IsQuotedFront, text_quotes, in_range, past_last}
 use Rattle.mm_lexer.proofs.Unique.{tokens_unique, tokens_or_fault}
 
 -- ---- offsets
@@ -88,14 +90,28 @@ word_length (suc n) (c ∷ cs) h k = rw length-append (omega (arith, length-enco
 within : (text : List ℕ) (p : Place) (cs : List ℕ) → StandsAt text p cs → p.offset ≤ length text
 within text p cs s = let e : length text ≡ length s.before + length (encode_utf8_all cs) = ap length s.joined ∙ length-append _ _ in omega (arith, e, s.offset)
 
-pub span : (text : List ℕ) (p : Place) (cs : List ℕ) (kind : TokenKind) (n : ℕ) → StandsAt text p cs → 1 ≤ n → 1 ≤ length cs → IsSpan text (token_at kind p (take n cs))
-span text p cs kind n s h k =
+-- a text is cut behind its first quote and before its last one
+quoted : (text : List ℕ) (p : Place) (cs : List ℕ) (n : ℕ) → StandsAt text p cs → IsQuotedFront cs n → IsQuoted text (token_at Text p (take n cs))
+quoted text p cs n s q =
+    let inner = past_all p (take 1 cs) in
+    let last = past_all p (take (suc q.m) cs) in
+    let first : inner.offset ≡ p.offset + 1 = past_last p cs 0 q.opened in
+    let end : (past_all p (take n cs)).offset ≡ last.offset + 1 = ap (λ k. (past_all p (take k cs)).offset) q.count ∙ past_last p cs (suc q.m) q.closed in
+    record {
+      both = omega (arith, end, past_all-offset p (take (suc q.m) cs), word_length (suc q.m) cs (omega arith) (omega (arith, in_range cs 0 q.opened)));
+      opened = subst (IsCharBoundary text) first (boundary text inner (drop 1 cs) (stands_after text p cs 1 s));
+      closed = subst (IsCharBoundary text) (omega (arith, end)) (boundary text last (drop (suc q.m) cs) (stands_after text p cs (suc q.m) s));
+    }
+
+pub span : (text : List ℕ) (p : Place) (cs : List ℕ) (kind : TokenKind) (n : ℕ) → StandsAt text p cs → 1 ≤ n → 1 ≤ length cs → (kind ≡ Text → IsQuotedFront cs n) → IsSpan text (token_at kind p (take n cs))
+span text p cs kind n s h k q =
     let after = stands_after text p cs n s in
     record {
       some = omega (arith, past_all-offset p (take n cs), word_length n cs h k);
       within = within text (past_all p (take n cs)) (drop n cs) after;
       begins = boundary text p cs s;
       ends = boundary text (past_all p (take n cs)) (drop n cs) after;
+      quotes = λ e. subst (λ (kind : TokenKind). IsQuoted text (token_at kind p (take n cs))) (sym e) (quoted text p cs n s (q e));
     }
 
 -- its bytes are theirs
@@ -124,7 +140,7 @@ reads_spans text Reads.none s = tt
 reads_spans text (Reads.gap {p = p} {cs = cs} {n = n} e a) s = reads_spans text a (stands_after text p cs n s)
 reads_spans text (Reads.token {p = p} {cs = cs} {kind = kind} {n = n} e t a) s =
     let some = token_some _ cs kind n e in
-    (subst (IsSpan text) (sym t) (span text p cs kind n s some.0 some.1), reads_spans text a (stands_after text p cs n s))
+    (subst (IsSpan text) (sym t) (span text p cs kind n s some.0 some.1 (λ k. text_quotes _ cs n (e ∙ ap (λ x. piece.Token x n) k))), reads_spans text a (stands_after text p cs n s))
 
 -- and they are in order
 pub reads_in_order : (from : ℕ) {p q : Place} {cs rest : List ℕ} {ts : List Token} → Reads p cs ts q rest → from ≤ p.offset → AreInOrder from ts

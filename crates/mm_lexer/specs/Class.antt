@@ -1,8 +1,7 @@
 -- The classes of characters.
-use Rattle.std.specs.Prelude.{ℕ, Bool, false, List, [], ◌∷◌, not, ◌&&◌, ◌||◌, ◌==◌, nat_le}
+use Rattle.std.specs.Prelude.{ℕ, Bool, not, ◌&&◌, ◌||◌, ◌==◌, nat_le}
 use Rattle.std.specs.Char.{is_digit}
-use Rattle.std.specs.List.{list_all}
-use Rattle.unicode_ident.specs.Ident.{is_xid_start, is_xid_continue}
+use Rattle.mm_goto.specs.Names.{is_name_char}
 use Rattle.mm_lexer.specs.declared.class.Base.{Base}
 use Rattle.mm_lexer.specs.declared.class.Base.TheVariants.{Octal, Decimal, Hexadecimal}
 use Rattle.mm_lexer.specs.declared.class.Class.{Class}
@@ -15,18 +14,6 @@ is_blank c = (c == 32) || (c == 9)
 -- what separates tokens by itself: a blank, a tab, a carriage return or a newline
 abbrev pub is_space : ℕ → Bool
 is_space c = (is_blank c || (c == 13)) || (c == 10)
-
--- a name begins with _ or a character that may start an identifier
-abbrev pub is_name_start : ℕ → Bool
-is_name_start c = (c == 95) || is_xid_start c
-
--- and goes on with _ or characters that may continue one
-abbrev pub is_name_char : ℕ → Bool
-is_name_char c = (c == 95) || is_xid_continue c
-
-abbrev pub is_name : List ℕ → Bool
-is_name [] = false
-is_name (c ∷ cs) = is_name_start c && list_all is_name_char cs
 
 -- a text has printable ASCII other than " and \
 abbrev pub is_text_char : ℕ → Bool

@@ -9,7 +9,8 @@ use Rattle.mm_lexer.specs.declared.class.Class.TheVariants.{Blank, Line, Name as
 use Rattle.mm_lexer.specs.declared.token.TokenKind.TheVariants.{Name, Number, Text, Mark}
 use Rattle.mm_lexer.specs.declared.piece.Piece.{Piece}
 use Rattle.mm_lexer.specs.declared.piece.Piece.TheVariants.{End, Gap, Token, Bad, TooLarge}
-use Rattle.mm_lexer.specs.Class.{is_space, is_name_start, is_name_char, radix, is_in}
+use Rattle.mm_goto.specs.Names.{is_name_start, is_name_char}
+use Rattle.mm_lexer.specs.Class.{is_space, radix, is_in}
 use Rattle.mm_lexer.specs.Marks.{mark_len}
 
 -- ---- numbers

@@ -1,5 +1,5 @@
 -- The tokens of a text.
-use Rattle.std.specs.Prelude.{◌≡◌, ℕ, ◌<◌, ◌≤◌, List, [], ◌∷◌, take, drop, length, slice_range, Option, Some, None}
+use Rattle.std.specs.Prelude.{◌≡◌, ℕ, ◌+◌, ◌-◌, ◌<◌, ◌≤◌, List, [], ◌∷◌, take, drop, length, slice_range, Option, Some, None}
 use Rattle.std.specs.Str.{chars, IsCharBoundary}
 use Rattle.mm_goto.specs.declared.ident.At.{At}
 use Rattle.mm_lexer.specs.declared.place.Place.{Place}
@@ -9,6 +9,7 @@ use Rattle.mm_lexer.specs.declared.token.LexFault.{LexFault}
 use Rattle.mm_lexer.specs.declared.token.LexFault.TheVariants.{BadToken, NumberTooLarge}
 use Rattle.mm_lexer.specs.declared.token.Token.{Token}
 use Rattle.mm_lexer.specs.declared.token.TokenKind.{TokenKind}
+use Rattle.mm_lexer.specs.declared.token.TokenKind.TheVariants as kind
 use Rattle.mm_lexer.specs.Place.{start, past_all}
 use Rattle.mm_lexer.specs.Piece.{piece_at}
 
@@ -20,12 +21,19 @@ token_at kind p word = record { kind = kind; start = p.offset; end = (past_all p
 abbrev pub bytes_of : List ℕ → Token → List ℕ
 bytes_of text t = slice_range text t.start t.end
 
+-- the token has a quote at each end
+pub record IsQuoted (text : List ℕ) (t : Token) : Type 0 where
+  pub both : t.start + 2 ≤ t.end
+  pub opened : IsCharBoundary text (t.start + 1)
+  pub closed : IsCharBoundary text (t.end - 1)
+
 -- the token is some of the text, cut between characters
 pub record IsSpan (text : List ℕ) (t : Token) : Type 0 where
   pub some : t.start < t.end
   pub within : t.end ≤ length text
   pub begins : IsCharBoundary text t.start
   pub ends : IsCharBoundary text t.end
+  pub quotes : t.kind ≡ kind.Text → IsQuoted text t
 
 -- each token begins where the one before has ended, or later
 abbrev pub AreInOrder : ℕ → List Token → Type 0

@@ -1,5 +1,6 @@
 ghost use Rattle.std.specs.Prelude.{◌≡◌, ◌≤◌};
-ghost use Rattle.mm_lexer.specs.Class.{is_blank, is_space, is_name_start, is_name_char, is_text_char, radix, is_in};
+ghost use Rattle.mm_goto.specs.Names.{is_name_start, is_name_char};
+ghost use Rattle.mm_lexer.specs.Class.{is_blank, is_space, is_text_char, radix, is_in};
 
 use unicode_ident::{is_xid_continue, is_xid_start};
 

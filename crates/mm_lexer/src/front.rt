@@ -3,9 +3,10 @@ ghost use Rattle.std.specs.Prelude.{◌≡◌, ◌<◌, ◌≤◌, ◌+◌, [], 
 ghost use Rattle.std.specs.Char.{len_utf8};
 ghost use Rattle.std.specs.Str.{chars};
 ghost use Rattle.std.specs.List.{prefix_len, starts_with};
+ghost use Rattle.mm_goto.specs.Names.{is_name};
 ghost use Rattle.mm_lexer.specs.Class.{is_in};
 
-use crate::class::{Class, is_in};
+use crate::class::{Class, is_in, is_name_char, is_name_start};
 
 /// The first character and what stands behind it.
 pub fn split(text: &str) -> Option<(char, &str)>
@@ -65,6 +66,27 @@ pub fn begins_with(text: &str, word: &[u8]) -> bool
             _ => return false,
         }
         word = bytes;
+    }
+    true
+}
+
+/// Whether the text has the form of a name: `_` or a character that may start an identifier, and behind it `_` or
+/// characters that may continue one, by Unicode's UAX 31.
+pub fn is_name(text: &str) -> bool
+    ensures { result ≡ is_name (chars text.now) }
+{
+    let Some((start, behind)) = split(text) else {
+        return false;
+    };
+    if !is_name_start(start) {
+        return false;
+    }
+    let mut rest = behind;
+    while let Some((c, others)) = split(rest) {
+        if !is_name_char(c) {
+            return false;
+        }
+        rest = others;
     }
     true
 }

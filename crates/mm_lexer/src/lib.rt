@@ -11,5 +11,6 @@ mod place;
 mod tests;
 mod token;
 
+pub use front::is_name;
 pub use lexing::lex;
 pub use token::{LexFault, Token, TokenKind};
