@@ -53,6 +53,7 @@ impl MemSource {
 fn copy_front(bytes: &[u8], piece: usize, out: &mut [u8]) -> usize
     ensures count { result ≡ min (min piece (length out.old)) (length bytes.now) }
     ensures front { bytes.now ≡ take result out.new ++ drop result bytes.now }
+    ensures rest { drop result out.new ≡ drop result out.old }
 {
     let count = piece.min(out.len()).min(bytes.len());
     out[..count].copy_from_slice(&bytes[..count]);
@@ -77,6 +78,10 @@ impl Source for MemSource {
             ≡ record self.old { left = drop n self.old.left; calls = one_more self.old.calls }) }
         ensures err { OnErr result (self.new
             ≡ record self.old { calls = one_more self.old.calls; faults = one_more self.old.faults }) }
+
+        // What stands in `out` behind the bytes that are given stays.
+        ensures rest { IfOk result (λ n. drop n out.new ≡ drop n out.old) }
+        ensures untouched { OnErr result (out.new ≡ out.old) }
     {
         self.calls = self.calls.saturating_add(1);
         if self.fails.contains(&self.calls) {

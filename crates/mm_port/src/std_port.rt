@@ -1,4 +1,7 @@
-ghost use Rattle.std.specs.Prelude.{◌≡◌};
+ghost use Rattle.std.specs.Prelude.{◌≡◌, ◌<◌, length, OnErr};
+ghost use Rattle.std.specs.Io.{ReadsAtMost};
+ghost use Rattle.std.specs.Io.KnownBytes.{ReadConsumes, WriteAppends};
+ghost use Rattle.mm_port.specs.Port.{HasCause, TakesSome, one_more};
 ghost use Rattle.mm_port.specs.Std.{reader_of, read_faults, writer_of, write_faults};
 
 use crate::port::{Failed, Sink, Source, count_fault};
@@ -26,7 +29,13 @@ impl<R: Read> Source for StdSource<R> {
 
     ghost faults = { λ s. s.faults };
 
-    fn read(&mut self, out: &mut [u8]) -> Result<usize, Failed> {
+    fn read(&mut self, out: &mut [u8]) -> Result<usize, Failed>
+        ensures bound { ReadsAtMost result out.new }
+        ensures bytes { ReadConsumes (R.remaining self.old.inner) (R.remaining self.new.inner) result out.new }
+        ensures cause { HasCause self.old.faults self.new.faults result }
+
+        ensures once { OnErr result (self.new.faults ≡ one_more self.old.faults) }
+    {
         match self.inner.read(out) {
             Ok(count) => Ok(count),
             Err(_) => Err(count_fault(&mut self.faults)),
@@ -56,7 +65,14 @@ impl<W: Write> Sink for StdSink<W> {
 
     ghost faults = { λ s. s.faults };
 
-    fn write(&mut self, piece: &[u8]) -> Result<usize, Failed> {
+    fn write(&mut self, piece: &[u8]) -> Result<usize, Failed>
+        requires { 0 < length piece.now }
+        ensures bound { TakesSome result piece.now }
+        ensures bytes { WriteAppends (W.contents self.old.inner) (W.contents self.new.inner) result piece.now }
+        ensures cause { HasCause self.old.faults self.new.faults result }
+
+        ensures once { OnErr result (self.new.faults ≡ one_more self.old.faults) }
+    {
         match self.inner.write(piece) {
             Ok(count) if count > 0 => Ok(count),
             _ => Err(count_fault(&mut self.faults)),

@@ -1,5 +1,7 @@
+ghost use Rattle.std.specs.Prelude.{◌≡◌, IfOk};
+
 use crate::{Failed, MemSink, MemSource, Sink, Source, StdSink, StdSource};
-use std::io;
+use std::io::{self, ErrorKind, Read};
 use std::test::Fail;
 
 #[test]
@@ -44,4 +46,36 @@ fn standard_input_is_read(rt: HostRuntime) {
 fn standard_output_is_written(rt: HostRuntime) {
     let mut sink = StdSink::new(io::writer(&rt));
     assert_eq!(rt; sink.write(b"x"), Ok(1));
+}
+
+/// What fails at its first call alone.
+#[derive(Drop)]
+struct Shaky {
+    has_failed: bool,
+}
+
+impl Shaky {
+    fn call(&mut self) -> io::Result<usize>
+        ensures { IfOk result (λ n. n ≡ 0) }
+    {
+        if self.has_failed {
+            return Ok(0);
+        }
+        self.has_failed = true;
+        Err(io::Error::from(ErrorKind::Other))
+    }
+}
+
+impl Read for Shaky {
+    fn read(&mut self, _out: &mut [u8]) -> io::Result<usize> {
+        self.call()
+    }
+}
+
+#[test]
+fn each_error_of_a_reader_is_told(rt: HostRuntime) {
+    let mut source = StdSource::new(Shaky { has_failed: false });
+    let mut out = [0u8; 2];
+    assert_eq!(rt; source.read(&mut out), Err(Failed));
+    assert_eq!(rt; source.read(&mut out), Ok(0));
 }

@@ -12,6 +12,7 @@ pub mod Laid
 pub mod Matched
 pub mod Numerals
 pub mod Parts
+pub mod Placeless
 pub mod Possibly
 pub mod Quiet
 pub mod ReadingLoop

@@ -1,5 +1,5 @@
 -- How a text is read, once along it. The definitions of ScheduleText say what that comes to.
-use Rattle.std.specs.Prelude.{◌≡◌, ℕ, ◌+◌, ℤ, pos, neg_ℤ, Bool, true, false, not, ◌&&◌, ◌||◌, ◌==◌, nat_lt, nat_le, ◌^◌, if◌then◌else◌, List, [], ◌∷◌, ◌++◌, length, codes, slice_index, Option, Some, None, option_and_then, Result, Ok, Err}
+use Rattle.std.specs.Prelude.{◌≡◌, ℕ, ◌+◌, ◌≤◌, ℤ, pos, neg_ℤ, Bool, true, false, not, ◌&&◌, ◌||◌, ◌==◌, nat_lt, nat_le, ◌^◌, if◌then◌else◌, List, [], ◌∷◌, ◌++◌, length, codes, slice_index, Option, Some, None, option_and_then, Result, Ok, Err}
 use Rattle.std.specs.List.{list_all}
 use Rattle.std.specs.Option.{option_map}
 use Rattle.std.specs.Str.{bytes_eq}
@@ -170,7 +170,12 @@ read_on s k (w ∷ ws) left = continued k (next s w) (λ t. read_on t (k + 1) ws
 abbrev pub read_text : Stage → ℕ → List ℕ → Result (List Line) ℕ
 read_text s k text = read_on s k (parts text).ws (parts text).left
 
+-- some lines are read, or the bad line is the third or a later one
+abbrev pub HasSome : Result (List Line) ℕ → Type 0
+HasSome (Ok ls) = 1 ≤ length ls
+HasSome (Err k) = 3 ≤ k
+
 -- the fault is that of what is read
 abbrev pub IsRead : Result (List Line) ℕ → SchedFault → Type 0
 IsRead r (BadLine k) = r ≡ Err k
-IsRead r NoMemory = Unit {0}
+IsRead r NoMemory = HasSome r

@@ -115,7 +115,11 @@ pub record IsBadLine (text : List ℕ) (k : ℕ) : Type 0 where
   pub stops : Stops ws left
   pub number : k ≡ length ws + 1
 
--- why a text is not read; a want of memory says nothing of it
+-- the text has lines to keep: it is a schedule that has some, or its bad line stands behind two that fit
+abbrev pub HasKept : List ℕ → Type 0
+HasKept text = ((lines : List Line) × IsSchedule text lines × (1 ≤ length lines)) ⊎ ((k : ℕ) × IsBadLine text k × (3 ≤ k))
+
+-- why a text is not read; memory is wanted for lines that are kept alone
 abbrev pub IsFault : List ℕ → SchedFault → Type 0
 IsFault text (BadLine k) = IsBadLine text k
-IsFault text NoMemory = Unit {0}
+IsFault text NoMemory = HasKept text

@@ -23,6 +23,10 @@ use Rattle.mm_goto.specs.Value.{value_of}
 abbrev pub zero_cell : Cell
 zero_cell = record { name = []; index = None; pointer = false; init = constant (pos 0) }
 
+-- a cell that is z at the start
+abbrev pub cell_from : ℤ → Cell
+cell_from z = record zero_cell { init = constant z }
+
 -- a thread of two locals
 abbrev pub thread_of : List Instr → Thread
 thread_of code = record { locals = 2; code = code; places = [] }
@@ -55,6 +59,14 @@ fail n = Assert (constant (pos 0)) n
 abbrev pub result_of : Binary → ℤ → ℤ → ℤ
 result_of op x y = value_of (combined op (constant x) (constant y)) []
 
+-- the same code with two mutexes
+abbrev pub of_two_mutexes : List Instr → Listing
+of_two_mutexes code = record (alone code) { mutexes = [] ∷ [] ∷ [] }
+
+-- two cells that begin so, and main reads the second
+abbrev pub from_values : ℤ → ℤ → Listing
+from_values x y = record (alone (get 1 1 ∷ End ∷ [])) { cells = cell_from x ∷ cell_from y ∷ [] }
+
 -- each thread writes a cell and reads the other
 abbrev pub store_buffering : Listing
 store_buffering = beside (Start 1 ∷ put 0 1 ∷ get 0 1 ∷ End ∷ []) (put 1 1 ∷ get 0 0 ∷ End ∷ [])
@@ -74,6 +86,10 @@ pso bound = Buffered Pso bound
 -- of main's stores the one at its first place
 abbrev pub first_alone : List (List Bool)
 first_alone = (true ∷ []) ∷ []
+
+-- the one at its second place
+abbrev pub second_alone : List (List Bool)
+second_alone = (false ∷ true ∷ []) ∷ []
 
 -- ---- what is seen after a schedule, from the start
 

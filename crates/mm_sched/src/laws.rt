@@ -1,21 +1,21 @@
 //! Examples of the machines' definitions, and laws on them.
 #![tactic(auto, using(crate::proofs::Computing::folds), unfolding(mm_goto::specs::Value::value_of, crate::specs::State::initial, crate::specs::Event::event, crate::specs::Event::act, crate::specs::Event::acted, crate::specs::Event::flushed))]
 
-ghost use Rattle.std.specs.Prelude.{◌≡◌, ℕ, ◌++◌, option_and_then, find, slice_get, pos, negsuc, true, false, List, [], ◌∷◌, Some, None};
+ghost use Rattle.std.specs.Prelude.{◌≡◌, ◌↔◌, ℕ, ◌++◌, option_and_then, find, slice_get, pos, negsuc, true, false, List, [], ◌∷◌, Some, None};
 ghost use Rattle.mm_sched.specs.declared.entry.Rules.TheVariants.{Sc, Partial};
 ghost use Rattle.mm_sched.specs.declared.entry.Entry.TheVariants.{Step, In, Flush, FlushCell};
 ghost use Rattle.mm_goto.specs.declared.program.Target.TheVariants as target;
 ghost use Rattle.mm_goto.specs.declared.program.Instr.TheVariants.{Set, Load, Store, Input, Jump, Branch, Assert, Assume, Fence, Lock, Unlock, Add, Start, Join, AtomBegin, AtomEnd, End};
 ghost use Rattle.mm_goto.specs.declared.pure.Binary.TheVariants as binary;
 ghost use Rattle.mm_goto.specs.declared.model.Model.TheVariants.{Tso, Pso};
-ghost use Rattle.mm_goto.specs.Listing.{Listing};
+ghost use Rattle.mm_goto.specs.Listing.{Listing, without_places};
 ghost use Rattle.mm_sched.specs.State.{State, Pending, initial, pending_of};
 ghost use Rattle.mm_sched.specs.Buffer.{is_to, part};
-ghost use Rattle.mm_sched.specs.Runs.{run, failing_thread};
+ghost use Rattle.mm_sched.specs.Runs.{run, Reaches, failing_thread};
 ghost use Rattle.mm_sched.specs.declared.entry.Entry.{Entry};
 ghost use Rattle.mm_sched.specs.declared.entry.Rules.{Rules};
 ghost use Rattle.mm_goto.specs.Terms.{constant};
-ghost use Rattle.mm_sched.specs.Tiny.{alone, beside, put, get, cas, fail, result_of, tso, pso, first_alone, store_buffering, message_passing, memory_after, local_after, verdict_after, place_after, enabled_after};
+ghost use Rattle.mm_sched.specs.Tiny.{alone, beside, put, get, cas, fail, result_of, tso, pso, first_alone, second_alone, from_values, of_two_mutexes, store_buffering, message_passing, memory_after, local_after, verdict_after, place_after, enabled_after};
 
 /// A load takes the thread's own newest pending store to the cell. Memory has a store after its flush alone.
 pub fn own_stores_are_seen()
@@ -58,8 +58,12 @@ pub fn flushes_need_no_running_thread()
 pub fn stores_keep_their_order()
     ensures tso { memory_after (tso 2) (alone (put 0 5 ∷ put 1 6 ∷ End ∷ []))
         (Step 0 ∷ Step 0 ∷ Flush 0 ∷ []) ≡ Some (pos 5 ∷ pos 0 ∷ []) }
+    ensures tso_both { memory_after (tso 2) (alone (put 0 5 ∷ put 1 6 ∷ End ∷ []))
+        (Step 0 ∷ Step 0 ∷ Flush 0 ∷ Flush 0 ∷ []) ≡ Some (pos 5 ∷ pos 6 ∷ []) }
     ensures overtakes { memory_after (pso 1) (alone (put 0 5 ∷ put 1 6 ∷ End ∷ []))
         (Step 0 ∷ Step 0 ∷ FlushCell 0 1 ∷ []) ≡ Some (pos 0 ∷ pos 6 ∷ []) }
+    ensures pso_both { memory_after (pso 1) (alone (put 0 5 ∷ put 1 6 ∷ End ∷ []))
+        (Step 0 ∷ Step 0 ∷ FlushCell 0 1 ∷ FlushCell 0 0 ∷ []) ≡ Some (pos 5 ∷ pos 6 ∷ []) }
     ensures one_cell { memory_after (pso 2) (alone (put 0 5 ∷ put 0 6 ∷ End ∷ []))
         (Step 0 ∷ Step 0 ∷ FlushCell 0 0 ∷ []) ≡ Some (pos 5 ∷ pos 0 ∷ []) }
     ensures newest_last { memory_after (pso 2) (alone (put 0 5 ∷ put 0 6 ∷ End ∷ []))
@@ -91,6 +95,10 @@ pub fn drained_instructions_wait()
         (Step 0 ∷ []) (Step 0) ≡ Some false }
     ensures start_goes_on { enabled_after (tso 1) (beside (put 0 5 ∷ Start 1 ∷ End ∷ []) (End ∷ []))
         (Step 0 ∷ Flush 0 ∷ []) (Step 0) ≡ Some true }
+    ensures join { enabled_after (tso 1) (beside (Start 1 ∷ put 0 5 ∷ Join 1 ∷ End ∷ []) (End ∷ []))
+        (Step 0 ∷ Step 1 ∷ Step 0 ∷ []) (Step 0) ≡ Some false }
+    ensures join_goes_on { enabled_after (tso 1) (beside (Start 1 ∷ put 0 5 ∷ Join 1 ∷ End ∷ []) (End ∷ []))
+        (Step 0 ∷ Step 1 ∷ Step 0 ∷ Flush 0 ∷ []) (Step 0) ≡ Some true }
     ensures add { enabled_after (tso 1) (alone (put 0 5 ∷ Add 0 (target.Cell 1) (constant (pos 1)) ∷ End ∷ []))
         (Step 0 ∷ []) (Step 0) ≡ Some false }
     ensures cas { enabled_after (pso 1) (alone (put 0 5 ∷ cas 0 1 0 1 ∷ End ∷ []))
@@ -126,6 +134,9 @@ pub fn mutexes_have_one_owner()
     ensures nobody { enabled_after Sc (alone (Unlock 0 ∷ End ∷ [])) [] (Step 0) ≡ Some false }
     ensures other { enabled_after Sc (beside (Start 1 ∷ Lock 0 ∷ End ∷ []) (Unlock 0 ∷ End ∷ []))
         (Step 0 ∷ Step 0 ∷ []) (Step 1) ≡ Some false }
+    ensures of_two { enabled_after Sc (of_two_mutexes (Lock 1 ∷ Lock 0 ∷ End ∷ [])) (Step 0 ∷ []) (Step 0) ≡ Some true }
+    ensures of_two_again { enabled_after Sc (of_two_mutexes (Lock 1 ∷ Lock 1 ∷ End ∷ []))
+        (Step 0 ∷ []) (Step 0) ≡ Some false }
 {}
 
 /// A thread steps once it is started, which happens once. A Join waits until it has ended and its stores are flushed.
@@ -160,6 +171,8 @@ pub fn a_target_is_a_cell()
     ensures no_cell { enabled_after Sc (alone (Load 0 (target.Deref (constant (pos 3))) ∷ End ∷ []))
         [] (Step 0) ≡ Some false }
     ensures element { memory_after Sc (alone (Store (target.Elem 0 2 (constant (pos 1))) (constant (pos 4)) ∷ End ∷ []))
+        (Step 0 ∷ []) ≡ Some (pos 0 ∷ pos 4 ∷ []) }
+    ensures behind_others { memory_after Sc (alone (Store (target.Elem 1 1 (constant (pos 0))) (constant (pos 4)) ∷ End ∷ []))
         (Step 0 ∷ []) ≡ Some (pos 0 ∷ pos 4 ∷ []) }
     ensures pointee { memory_after Sc (alone (Store (target.Deref (constant (pos 2))) (constant (pos 4)) ∷ End ∷ []))
         (Step 0 ∷ []) ≡ Some (pos 0 ∷ pos 4 ∷ []) }
@@ -237,6 +250,17 @@ pub fn stores_outside_the_set_write_at_once()
         (Step 0 ∷ []) ≡ Some (pos 0 ∷ pos 0 ∷ []) }
     ensures room { enabled_after (Partial Tso 0 first_alone) (alone (put 0 5 ∷ put 1 6 ∷ End ∷ []))
         [] (Step 0) ≡ Some false }
+    ensures second_pends { memory_after (Partial Tso 2 second_alone) (alone (put 0 5 ∷ put 1 6 ∷ End ∷ []))
+        (Step 0 ∷ Step 0 ∷ []) ≡ Some (pos 5 ∷ pos 0 ∷ []) }
+{}
+
+/// At the start each cell has its start value, each local is 0, and nothing is pending.
+pub fn a_machine_begins_with_the_start_values()
+    ensures cells { memory_after (tso 1) (from_values (pos 7) (negsuc 2)) [] ≡ Some (pos 7 ∷ negsuc 2 ∷ []) }
+    ensures local { local_after (tso 1) (from_values (pos 7) (negsuc 2)) [] 0 1 ≡ Some (pos 0) }
+    ensures read { local_after (tso 1) (from_values (pos 7) (negsuc 2)) (Step 0 ∷ []) 0 1 ≡ Some (negsuc 2) }
+    ensures tso { enabled_after (tso 1) (from_values (pos 7) (negsuc 2)) [] (Flush 0) ≡ Some false }
+    ensures pso { enabled_after (pso 1) (from_values (pos 7) (negsuc 2)) [] (FlushCell 0 1) ≡ Some false }
 {}
 
 /// The failing thread is that of the last `step` entry.
@@ -274,4 +298,10 @@ pub fn runs_join()
 #[tactic(auto)]
 pub fn nothing_is_pending_under_sc()
     ensures { (p : Listing) (es : List Entry) (s : State) → run Sc p (initial p) es ≡ Some s → (t : ℕ) → pending_of s t ≡ [] }
+{}
+
+/// The places in the text do not matter to what a program does.
+#[tactic(auto)]
+pub fn places_do_not_matter()
+    ensures { (r : Rules) (p : Listing) (n : ℕ) → Reaches r (without_places p) n ↔ Reaches r p n }
 {}

@@ -1,4 +1,4 @@
-ghost use Rattle.std.specs.Prelude.{◌≡◌, ◌+◌, ◌<◌, ◌≤◌, ◌^◌, ◌++◌, ℕ, length, [], Some, None, Ok, IfOk, IfErr, OnOk, MatchOption, MatchResult};
+ghost use Rattle.std.specs.Prelude.{◌≡◌, ◌+◌, ◌<◌, ◌≤◌, ◌^◌, ◌++◌, ℕ, length, [], Some, None, Ok, IfOk, IfErr, IsSome, OnOk, OnErr, MatchOption, MatchResult};
 ghost use Rattle.mm_sched.specs.declared.read.Stage.TheVariants.{First};
 ghost use Rattle.std.specs.List.{list_all};
 ghost use Rattle.std.specs.Char.{is_ascii_digit};
@@ -205,6 +205,7 @@ fn is_ended(stage: Stage, left: &str) -> bool
 fn put(lines: &mut Vec<Line>, line: Option<Line>) -> Result<(), SchedFault>
     ensures ok { OnOk result (lines.new.items ≡ lines.old.items ++ lines_of line) }
     ensures no_memory { IfErr result (λ e. e ≡ SchedFault.NoMemory) }
+    ensures kept { OnErr result (IsSome line) }
 {
     if let Some(line) = line {
         lines.push(line)?;

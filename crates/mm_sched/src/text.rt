@@ -1,10 +1,10 @@
 //! Laws on the text of schedules.
 
-ghost use Rattle.std.specs.Prelude.{◌≡◌, ◌≤◌, ◌⊎◌, ℕ, List, length};
+ghost use Rattle.std.specs.Prelude.{◌≡◌, ◌≤◌, ◌⊎◌, ◌+◌, ◌^◌, ℕ, List, length};
 ghost use Rattle.std.specs.List.{All};
 ghost use Rattle.mm_sched.specs.declared.entry.Entry.{Entry};
 ghost use Rattle.mm_sched.specs.declared.schedule.Line.{Line};
-ghost use Rattle.mm_sched.specs.declared.schedule.TheConstants.{MAX_ENTRIES};
+ghost use Rattle.mm_sched.specs.declared.schedule.TheConstants.{MAX_ENTRIES, FULL};
 ghost use Rattle.mm_sched.specs.ScheduleText.{entries_in, IsEntry, IsSchedule, IsBadLine};
 ghost use Rattle.mm_sched.specs.Spelling.{spell};
 
@@ -21,4 +21,10 @@ pub fn a_text_is_read_in_one_way()
 pub fn what_is_spelled_is_read()
     ensures { (es : List Entry) → length es ≤ MAX_ENTRIES → All IsEntry es →
         (ls : List Line) × IsSchedule (spell es) ls × (entries_in ls ≡ es) }
+{}
+
+/// A text stands for ten million entries at most, and a line for all that a number of 32 bits counts.
+pub fn a_text_has_its_limits()
+    ensures entries { MAX_ENTRIES ≡ 10000000 }
+    ensures of_a_line { FULL + 1 ≡ 2 ^ 32 }
 {}
