@@ -3,21 +3,8 @@
 # each nesting form, the greatest depth at which comparing, copying and dropping it ends, as LLVM builds the program.
 # It works on a copy of the crates, with a small program that builds the tree from its innermost part on.
 set -euo pipefail
-root=$(cd "$(dirname "$0")/.." && pwd)
-copy=$(mktemp -d)
-trap 'rm -rf "$copy"' EXIT
-mkdir -p "$copy/crates/depth/src"
-git -C "$copy" init -q
-cp "$root/HANDLES" "$copy/"
-for crate in mm_goto mm_tree; do
-    mkdir "$copy/crates/$crate"
-    for part in src specs proofs; do
-        cp -r "$root/crates/$crate/$part" "$copy/crates/$crate/"
-    done
-    grep "^$crate:" "$root/crates.txt" >> "$copy/crates.txt"
-done
-echo 'depth: mm_goto mm_tree sqlite_items' >> "$copy/crates.txt"
-cat > "$copy/crates/depth/src/main.rt" <<'MAIN'
+. "$(dirname "$0")/copy.sh"
+copy_crates depth "mm_goto mm_tree sqlite_items" mm_goto mm_tree <<'MAIN'
 #![tactic(auto)]
 
 use mm_goto::{At, Ident, List, NoMemory, Unary};
@@ -120,7 +107,6 @@ fn main(rt: HostRuntime) -> io::Result<()> {
     Ok(())
 }
 MAIN
-cd "$copy/crates/depth"
 printf 'do 1\n' > stdin
 echo same > stdout
 rt run > build.log 2>&1 || { tail -20 build.log; exit 1; }

@@ -1,5 +1,29 @@
-mod Numbers
-pub mod Repeated
-pub mod Unique
 pub mod Validity
-mod Words
+pub mod SmallFlat
+pub mod SmallSourcelike
+pub mod ListReads
+pub mod MarkReads
+pub mod MarkSound
+pub mod NodeComplete
+pub mod ProgramComplete
+pub mod ProgramSound
+pub mod StatementComplete
+pub mod StatementReads
+pub mod StatementReadsAssign
+pub mod StatementReadsChoice
+pub mod StatementReadsNode
+pub mod StatementReadsParts
+pub mod StatementReadsValue
+pub mod StatementShorter
+pub mod StatementSound
+pub mod ChoiceReads
+pub mod ProgramReadsGlobals
+pub mod ProgramReadsFunctions
+pub mod ProgramReadsInts
+pub mod ProgramReads
+pub mod ProgramRuns
+pub mod Items
+pub mod Joined
+pub mod Parsed
+pub mod Parts
+pub mod Tested

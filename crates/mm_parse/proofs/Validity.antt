@@ -15,10 +15,10 @@ use Rattle.mm_goto.specs.Locals.{local_bound, local_bound_step, rows_of, rows_st
 use Rattle.mm_goto.specs.Terms.{constant, the_local}
 use Rattle.mm_goto.specs.Valid.{IsPureIn, IsInstrIn, IsThreadIn, IsCellIn, IsValid, IsLast, start_step}
 use Rattle.mm_goto.proofs.Folding.{fold_constant, fold_local, fold_combined}
-use Rattle.mm_parse.specs.declared.small.tree.Statement.{Statement}
-use Rattle.mm_parse.specs.declared.small.tree.Statement.TheVariants as statement
-use Rattle.mm_parse.specs.declared.small.tree.Small.{Small}
-use Rattle.mm_parse.specs.Grammar.{IsStatementIn, IsWithinLimits, sites}
+use Rattle.mm_parse.specs.declared.small_program.tree.Statement.{Statement}
+use Rattle.mm_parse.specs.declared.small_program.tree.Statement.TheVariants as statement
+use Rattle.mm_parse.specs.declared.small_program.tree.Small.{Small}
+use Rattle.mm_parse.specs.SmallTree.{IsStatementIn, IsWithinLimits, sites}
 use Rattle.mm_parse.specs.Flat.{reads, asserts, equals, statement_code, statement_places, body_code, body_places, main_of, cell, listing_of}
 
 -- ---- expressions
@@ -41,11 +41,11 @@ equals_in p t l z h = record { locals = rw bound_of_equals (omega (arith, h)); c
 -- ---- the code
 
 statement_in : (p : Listing) (t : Thread) (l n : ℕ) (s : Statement) → IsStatementIn (length p.cells) s → l + reads s ≤ t.locals → AllByRecursion (IsInstrIn p t) (statement_code l n s)
-statement_in p t l n (statement.Number at c z) h k = ((h, constant_in p t z), tt)
+statement_in p t l n (statement.Number at c z) h k = ((h.0, constant_in p t z), tt)
 statement_in p t l n (statement.Variable at c f d) h k = ((omega arith, h.1), ((h.0, local_in p t l (omega arith)), tt))
-statement_in p t l n (statement.Assert at f c z) h k = ((omega arith, h), (equals_in p t l z (omega arith), tt))
+statement_in p t l n (statement.Assert at f c z) h k = ((omega arith, h.0), (equals_in p t l z (omega arith), tt))
 
-append_in : {X : Type 0} (P : X → Type 0) (xs ys : List X) → AllByRecursion P xs → AllByRecursion P ys → AllByRecursion P (xs ++ ys)
+pub append_in : {X : Type 0} (P : X → Type 0) (xs ys : List X) → AllByRecursion P xs → AllByRecursion P ys → AllByRecursion P (xs ++ ys)
 append_in P [] ys h k = k
 append_in P (x ∷ xs) ys h k = (h.0, append_in P xs ys h.1 k)
 
@@ -60,7 +60,7 @@ statement_length l n (statement.Number at c z) = omega arith
 statement_length l n (statement.Variable at c f d) = omega arith
 statement_length l n (statement.Assert at f c z) = omega arith
 
-body_length : (l n : ℕ) (ss : List Statement) → length (body_code l n ss) ≤ 2 * length ss
+pub body_length : (l n : ℕ) (ss : List Statement) → length (body_code l n ss) ≤ 2 * length ss
 body_length l n [] = omega arith
 body_length l n (s ∷ ss) = rw length-append (omega (arith, statement_length l n s, body_length (l + reads s) (n + asserts s) ss))
 
@@ -83,7 +83,7 @@ length_sites (s ∷ ss) = omega (arith, some s, sum_by-cons sites s ss, length_s
     some (statement.Variable at c f d) = omega arith
     some (statement.Assert at f c z) = omega arith
 
-reads_length : (ss : List Statement) → sum_by reads ss ≤ length ss
+pub reads_length : (ss : List Statement) → sum_by reads ss ≤ length ss
 reads_length [] = omega arith
 reads_length (s ∷ ss) = omega (arith, one s, sum_by-cons reads s ss, reads_length ss)
   where
@@ -97,7 +97,7 @@ reads_length (s ∷ ss) = omega (arith, one s, sum_by-cons reads s ss, reads_len
 cells_in : (vs : List Ident) (cells : List Cell) → All (IsCellIn cells) (map cell vs)
 cells_in vs cells = All-map (IsCellIn cells) cell vs (λ k d h. record { kind = rw (fold_constant start_step (pos 0)) refl; rows = rw (fold_constant rows_step (pos 0)) (All-from_recursion _ [] tt) })
 
-last_is : (xs : List Instr) (a b : Instr) → slice_get (xs ++ a ∷ b ∷ []) (length (xs ++ a ∷ b ∷ []) - 1) ≡ Some b
+pub last_is : (xs : List Instr) (a b : Instr) → slice_get (xs ++ a ∷ b ∷ []) (length (xs ++ a ∷ b ∷ []) - 1) ≡ Some b
 last_is xs a b =
     let e : length (xs ++ a ∷ b ∷ []) - 1 ≡ length xs + 1 = simp length-append (omega arith) in
     rw e (slice_get-get_or (xs ++ a ∷ b ∷ []) (length xs + 1) b (simp length-append (omega arith)) ∙ ap Some (get_or-append-add xs (a ∷ b ∷ []) 1 b))
@@ -111,14 +111,14 @@ main_in p b h = record {
 }
 
 -- the program is valid
-pub listing_valid : (p : Small) → IsWithinLimits p → All (IsStatementIn (length p.variables)) p.body → IsValid (listing_of p)
-listing_valid p l h = record {
+pub listing_valid : (p : Small) → IsWithinLimits p → IsValid (listing_of p)
+listing_valid p l = record {
   main = omega arith;
   threads = omega arith;
   mutexes = omega arith;
-  cells = rw length-map (omega (arith, l.variables.0));
+  cells = rw length-map (omega (arith, l.variables.few));
   instructions = simp length-append (omega (arith, body_length 0 1 p.body, length_sites p.body, l.sites));
   each_cell = cells_in p.variables _;
-  each_thread = All-from_recursion (IsThreadIn (listing_of p)) (main_of p ∷ []) (main_in p (omega (arith, length_sites p.body, l.sites)) h, tt);
+  each_thread = All-from_recursion (IsThreadIn (listing_of p)) (main_of p ∷ []) (main_in p (omega (arith, length_sites p.body, l.sites)) l.statements, tt);
   each_start = λ u a b. absurd (omega arith);
 }

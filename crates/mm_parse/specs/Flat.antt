@@ -12,9 +12,9 @@ use Rattle.mm_goto.specs.declared.program.Cell.{Cell}
 use Rattle.mm_goto.specs.declared.program.Thread.{Thread}
 use Rattle.mm_goto.specs.Listing.{Listing}
 use Rattle.mm_goto.specs.Terms.{constant, the_local, combined}
-use Rattle.mm_parse.specs.declared.small.tree.Statement.{Statement}
-use Rattle.mm_parse.specs.declared.small.tree.Statement.TheVariants as statement
-use Rattle.mm_parse.specs.declared.small.tree.Small.{Small}
+use Rattle.mm_parse.specs.declared.small_program.tree.Statement.{Statement}
+use Rattle.mm_parse.specs.declared.small_program.tree.Statement.TheVariants as statement
+use Rattle.mm_parse.specs.declared.small_program.tree.Small.{Small}
 
 -- how many values a statement reads
 abbrev pub reads : Statement → ℕ

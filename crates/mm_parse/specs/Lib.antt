@@ -1,6 +1,12 @@
+pub mod Begun
+pub mod BegunItems
+pub mod Faults
 pub mod Flat
-pub mod Grammar
-pub mod Lexis
-pub mod Reads
+pub mod Meaning
+pub mod Nesting
+pub mod ProgramGrammar
+pub mod ProgramReading
 pub mod SmallProgram
-pub mod Word
+pub mod SmallTree
+pub mod StatementGrammar
+pub mod StatementReading

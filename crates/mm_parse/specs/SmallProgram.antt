@@ -1,14 +1,15 @@
--- The small program of a text.
-use Rattle.std.specs.Prelude.{◌≡◌, ℕ, List}
+-- The goto program of a small program.
+use Rattle.std.specs.Prelude.{◌≡◌, Some}
 use Rattle.mm_goto.specs.Listing.{Listing}
-use Rattle.mm_parse.specs.declared.small.tree.Small.{Small}
-use Rattle.mm_parse.specs.Lexis.{tokens_of}
-use Rattle.mm_parse.specs.Grammar.{IsProgram, IsWithinLimits}
-use Rattle.mm_parse.specs.Flat.{listing_of}
+use Rattle.mm_tree.specs.declared.item.Tree.{Tree}
+use Rattle.mm_tree.specs.declared.side.Side.TheVariants.{Source}
+use Rattle.mm_flat.specs.Flattening.{IsFlat}
+use Rattle.mm_parse.specs.declared.small_program.tree.Small.{Small}
+use Rattle.mm_parse.specs.SmallTree.{small_of, IsWithinLimits}
 
--- the text is a small program with this listing
-pub record IsSmallProgram (text : List ℕ) (p : Listing) : Type 0 where
-  pub tree : Small
-  pub parsed : IsProgram (tokens_of text) tree
-  pub within : IsWithinLimits tree
-  pub flat : p ≡ listing_of tree
+-- the tree is that of a small program, and flattened it is this goto program
+pub record IsSmallProgram (tree : Tree) (p : Listing) : Type 0 where
+  pub small : Small
+  pub is_small : small_of tree ≡ Some small
+  pub within : IsWithinLimits small
+  pub flat : IsFlat Source tree p

@@ -1,6 +1,16 @@
 //! The parser: from the text of a program to the program.
 #![tactic(auto)]
 
-mod small;
+pub mod laws;
+mod nesting;
+mod program;
+mod reading;
+mod small_program;
+#[cfg(test)]
+mod tests;
 
-pub use small::{SmallFault, parse_small};
+pub use mm_parse_expr::ParseFault;
+pub use nesting::{Counts, deep_at};
+pub use program::parse;
+pub use reading::STATEMENT;
+pub use small_program::{SmallFault, small};

@@ -47,7 +47,7 @@ mutual
 
 -- ---- where a reader ends
 
-index_done : (r : Lower) (rest : List Terminal) → Stops 0 (head rest) → index r rest ≡ Parsed None rest
+pub index_done : (r : Lower) (rest : List Terminal) → Stops 0 (head rest) → index r rest ≡ Parsed None rest
 unfolding index peek pure
 index_done r rest c = ap (λ (p : Reader (Option Expr)). p rest) (index_ends r (head rest) c)
 

@@ -18,11 +18,11 @@ pub record AllOnward (r : Lower) : Type 0 where
   pub more : (n : ℕ) (a : Expr) → Onward (r.more n a)
   pub unary : Onward r.unary
 
-close_onward : Onward close
+pub close_onward : Onward close
 unfolding close
 close_onward = onward_token _
 
-close_bracket_onward : Onward close_bracket
+pub close_bracket_onward : Onward close_bracket
 unfolding close_bracket
 close_bracket_onward = onward_token _
 
@@ -30,12 +30,12 @@ colon_onward : Onward colon
 unfolding colon
 colon_onward = onward_token _
 
-name_onward : Onward name_word
+pub name_onward : Onward name_word
 unfolding name_word
 name_onward = onward_token _
 
 -- a token, and then p
-then_onward : {A : Type 0} (p : Reader A) → Onward p → Onward (skip >> p)
+pub then_onward : {A : Type 0} (p : Reader A) → Onward p → Onward (skip >> p)
 then_onward p h = onward_bind skip (λ _. p) onward_skip (λ _. h)
 
 module _ (r : Lower) (O : AllOnward r) where
@@ -55,7 +55,7 @@ module _ (r : Lower) (O : AllOnward r) where
   index_ends OpenBracket t tail = inr (takes_more _ t tail in_brackets)
   index_ends _ t tail = inl refl
 
-  index_onward : Onward (index r)
+  pub index_onward : Onward (index r)
   unfolding index pure
   index_onward = onward_peek (index_at r) index_at_onward (λ t tail. index_ends t.symbol t tail)
 

@@ -54,19 +54,19 @@ a_zero = terminal (Number (pos 0)) nowhere (codes "0")
 abbrev pub zero_tree : Expr
 zero_tree = tree nowhere (node.Number (pos 0))
 
-close_example : (P C : Option Terminal → Type 0) → P (Some (terminal Close nowhere (codes ")"))) → Example P C (λ m. close)
+pub close_example : (P C : Option Terminal → Type 0) → P (Some (terminal Close nowhere (codes ")"))) → Example P C (λ m. close)
 unfolding close
 close_example P C p = example_of_token P C (λ t. when (is_close t.symbol)) (terminal Close nowhere (codes ")")) tt refl p
 
-close_reads : (n : ℕ) (P C : Option Terminal → Type 0) → P (Some (terminal Close nowhere (codes ")"))) → Reads n P C close (λ m. close)
+pub close_reads : (n : ℕ) (P C : Option Terminal → Type 0) → P (Some (terminal Close nowhere (codes ")"))) → Reads n P C close (λ m. close)
 unfolding close
 close_reads n P C p = reads_token n P C (λ t. when (is_close t.symbol)) (terminal Close nowhere (codes ")")) tt refl p
 
-close_bracket_example : (P C : Option Terminal → Type 0) → P (Some (terminal CloseBracket nowhere (codes "]"))) → Example P C (λ m. close_bracket)
+pub close_bracket_example : (P C : Option Terminal → Type 0) → P (Some (terminal CloseBracket nowhere (codes "]"))) → Example P C (λ m. close_bracket)
 unfolding close_bracket
 close_bracket_example P C p = example_of_token P C (λ t. when (is_close_bracket t.symbol)) (terminal CloseBracket nowhere (codes "]")) tt refl p
 
-close_bracket_reads : (n : ℕ) (P C : Option Terminal → Type 0) → P (Some (terminal CloseBracket nowhere (codes "]"))) → Reads n P C close_bracket (λ m. close_bracket)
+pub close_bracket_reads : (n : ℕ) (P C : Option Terminal → Type 0) → P (Some (terminal CloseBracket nowhere (codes "]"))) → Reads n P C close_bracket (λ m. close_bracket)
 unfolding close_bracket
 close_bracket_reads n P C p = reads_token n P C (λ t. when (is_close_bracket t.symbol)) (terminal CloseBracket nowhere (codes "]")) tt refl p
 
@@ -78,11 +78,11 @@ colon_reads : (n : ℕ) (P C : Option Terminal → Type 0) → P (Some (terminal
 unfolding colon
 colon_reads n P C p = reads_token n P C (λ t. when (is_colon t.symbol)) (terminal Colon nowhere (codes ":")) tt refl p
 
-name_reads : (n : ℕ) (C : Option Terminal → Type 0) → Reads n Any C name_word (λ m. name_word)
+pub name_reads : (n : ℕ) (C : Option Terminal → Type 0) → Reads n Any C name_word (λ m. name_word)
 unfolding name_word
 name_reads n C = reads_token n Any C (λ t. named t.symbol t) (terminal Name nowhere (codes "x")) (word nowhere (codes "x")) refl tt
 
-index_example : Example Any (Stops 0) at_index
+pub index_example : Example Any (Stops 0) at_index
 unfolding index
 index_example = example_end Any (Stops 0) at_index (λ h m. index_at (lower m) h) None (λ m. refl) (λ h m c. index_ends (lower (suc m)) h c) (λ h c. tt)
 
@@ -94,7 +94,7 @@ more_example : (k : ℕ) (a : Expr) → Example (Stops k) (Stops (suc k)) (at_mo
 unfolding lower more more_of
 more_example k a = example_end (Stops k) (Stops (suc k)) (at_more k a) (λ h. above (λ r. more_at r k (level r k) a h)) a (λ m. refl) (λ h m c. more_ends (lower m) k (level (lower m) k) a h c) (λ h c. stops_less k h c)
 
-level_example : (k : ℕ) → Example Any (Stops k) (at_level k)
+pub level_example : (k : ℕ) → Example Any (Stops k) (at_level k)
 unfolding lower level more
 level_example zero = example_switch Any (Stops 0) at_unary (at_level 0) (λ m. refl) (unary_example (Stops 0))
 level_example (suc k) = example_switch Any (Stops (suc k)) (seq (at_level k) (at_more k)) (at_level (suc k)) (λ m. refl)
@@ -116,7 +116,7 @@ unary_start_example C = example_token Any C C a_zero _ (λ m. pure zero_tree) tt
 -- ---- one level
 
 module _ (n : ℕ) (r : Lower) (R : AllRead n r) where
-  index_reads : Reads n Any (Stops 0) (index r) at_index
+  pub index_reads : Reads n Any (Stops 0) (index r) at_index
   unfolding index
   index_reads = reads_peek n Any (Stops 0) (index_at r) (λ h m. index_at (lower m) h) index_example branch
     where

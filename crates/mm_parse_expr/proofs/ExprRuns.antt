@@ -29,13 +29,13 @@ unary_found ts e d zero l = absurd (omega arith)
 unary_found ts e d (suc m) l = unary_complete d m tt l
 
 pub expr_read : (n : ℕ) (ts : List Terminal) (e : Expr) (rest : List Terminal) → length ts < n → (lower n).expr ts ≡ Parsed e rest → IsRead IsExpression ts e rest
-expr_read n ts e rest l same = parsed_is_read IsExpression Any Ends at_expr tt expr_sound expr_found (λ m. (all_onward m).expr) n ts e rest ((all_read n).expr.at ts l) same
+expr_read n ts e rest l same = parsed_is_read IsExpression Any Ends at_expr tt expr_sound expr_found n ts e rest ((all_read n).expr.at ts l) same
 
 pub expr_fault : (n : ℕ) (ts rest : List Terminal) → length ts < n → (lower n).expr ts ≡ Fault rest → IsFirstFault IsExpression ts rest
 expr_fault n ts rest l same = fault_is_first IsExpression Any Ends at_expr tt expr_sound expr_found (λ m. (all_onward m).expr) n ts rest ((all_read n).expr.at ts l) same
 
 pub unary_read : (n : ℕ) (ts : List Terminal) (e : Expr) (rest : List Terminal) → length ts < n → (lower n).unary ts ≡ Parsed e rest → IsRead IsUnaryExpression ts e rest
-unary_read n ts e rest l same = parsed_is_read IsUnaryExpression Any (Stops 0) at_unary tt unary_sound unary_found (λ m. (all_onward m).unary) n ts e rest ((all_read n).unary.at ts l) same
+unary_read n ts e rest l same = parsed_is_read IsUnaryExpression Any (Stops 0) at_unary tt unary_sound unary_found n ts e rest ((all_read n).unary.at ts l) same
 
 pub unary_fault : (n : ℕ) (ts rest : List Terminal) → length ts < n → (lower n).unary ts ≡ Fault rest → IsFirstFault IsUnaryExpression ts rest
 unary_fault n ts rest l same = fault_is_first IsUnaryExpression Any (Stops 0) at_unary tt unary_sound unary_found (λ m. (all_onward m).unary) n ts rest ((all_read n).unary.at ts l) same

@@ -37,25 +37,25 @@ is_a_colon : (s : Symbol) → is_colon s ≡ true → s ≡ Colon
 is_a_colon Colon e = refl
 is_a_colon _ e = cc
 
-holds : (b : Bool) (u : Unit {0}) → when b ≡ Some u → b ≡ true
+pub holds : (b : Bool) (u : Unit {0}) → when b ≡ Some u → b ≡ true
 holds true u e = refl
 holds false u e = cc
 
 -- a terminal whose symbol is known
-as_terminal : (t : Terminal) (s : Symbol) → t.symbol ≡ s → t ≡ terminal s t.at t.spelling
+pub as_terminal : (t : Terminal) (s : Symbol) → t.symbol ≡ s → t ≡ terminal s t.at t.spelling
 as_terminal t s e = ap (λ s. terminal s t.at t.spelling) e
 
-sound_close : {B : Type 0} (K : B → List Terminal → Type 0) (f : Reader B) (ts : List Terminal) → ((p : At) (x : List ℕ) (rest : List Terminal) → ts ≡ terminal Close p x ∷ rest → SoundAt K (f rest)) → SoundAt K ((close >> f) ts)
+pub sound_close : {B : Type 0} (K : B → List Terminal → Type 0) (f : Reader B) (ts : List Terminal) → ((p : At) (x : List ℕ) (rest : List Terminal) → ts ≡ terminal Close p x ∷ rest → SoundAt K (f rest)) → SoundAt K ((close >> f) ts)
 unfolding close
 sound_close K f ts k = sound_token K (λ t. when (is_close t.symbol)) (λ _. f) ts
     (λ t u rest e same. k t.at t.spelling rest (subst (λ (v : Terminal). ts ≡ v ∷ rest) (as_terminal t Close (closes t.symbol (holds _ _ e))) same))
 
-sound_close_bracket : {B : Type 0} (K : B → List Terminal → Type 0) (f : Reader B) (ts : List Terminal) → ((p : At) (x : List ℕ) (rest : List Terminal) → ts ≡ terminal CloseBracket p x ∷ rest → SoundAt K (f rest)) → SoundAt K ((close_bracket >> f) ts)
+pub sound_close_bracket : {B : Type 0} (K : B → List Terminal → Type 0) (f : Reader B) (ts : List Terminal) → ((p : At) (x : List ℕ) (rest : List Terminal) → ts ≡ terminal CloseBracket p x ∷ rest → SoundAt K (f rest)) → SoundAt K ((close_bracket >> f) ts)
 unfolding close_bracket
 sound_close_bracket K f ts k = sound_token K (λ t. when (is_close_bracket t.symbol)) (λ _. f) ts
     (λ t u rest e same. k t.at t.spelling rest (subst (λ (v : Terminal). ts ≡ v ∷ rest) (as_terminal t CloseBracket (closes_bracket t.symbol (holds _ _ e))) same))
 
-sound_colon : {B : Type 0} (K : B → List Terminal → Type 0) (f : Reader B) (ts : List Terminal) → ((p : At) (x : List ℕ) (rest : List Terminal) → ts ≡ terminal Colon p x ∷ rest → SoundAt K (f rest)) → SoundAt K ((colon >> f) ts)
+pub sound_colon : {B : Type 0} (K : B → List Terminal → Type 0) (f : Reader B) (ts : List Terminal) → ((p : At) (x : List ℕ) (rest : List Terminal) → ts ≡ terminal Colon p x ∷ rest → SoundAt K (f rest)) → SoundAt K ((colon >> f) ts)
 unfolding colon
 sound_colon K f ts k = sound_token K (λ t. when (is_colon t.symbol)) (λ _. f) ts
     (λ t u rest e same. k t.at t.spelling rest (subst (λ (v : Terminal). ts ≡ v ∷ rest) (as_terminal t Colon (is_a_colon t.symbol (holds _ _ e))) same))
@@ -63,17 +63,17 @@ sound_colon K f ts k = sound_token K (λ t. when (is_colon t.symbol)) (λ _. f) 
 -- ---- primary and unary
 
 -- an index in brackets
-record Bracketed (ts : List Terminal) (e : Expr) (rest : List Terminal) : Type 0 where
-  open_at : At
-  open_spelt : List ℕ
-  close_at : At
-  close_spelt : List ℕ
-  inside : List Terminal
-  begins : ts ≡ terminal OpenBracket open_at open_spelt ∷ inside
-  index : IsExpr inside e (terminal CloseBracket close_at close_spelt ∷ rest)
+pub record Bracketed (ts : List Terminal) (e : Expr) (rest : List Terminal) : Type 0 where
+  pub open_at : At
+  pub open_spelt : List ℕ
+  pub close_at : At
+  pub close_spelt : List ℕ
+  pub inside : List Terminal
+  pub begins : ts ≡ terminal OpenBracket open_at open_spelt ∷ inside
+  pub index : IsExpr inside e (terminal CloseBracket close_at close_spelt ∷ rest)
 
 -- no index, or one in brackets
-abbrev HasIndex : List Terminal → Option Expr → List Terminal → Type 0
+abbrev pub HasIndex : List Terminal → Option Expr → List Terminal → Type 0
 HasIndex ts None rest = ts ≡ rest
 HasIndex ts (Some e) rest = Bracketed ts e rest
 
@@ -93,7 +93,7 @@ module _ (r : Lower) (S : Sound r) where
       (λ e mid d. sound_close_bracket (λ i rest. HasIndex (terminal OpenBracket p x ∷ ts) i rest) (pure (Some e)) mid (λ q y rest same. record { open_at = p; open_spelt = x; close_at = q; close_spelt = y; inside = ts; begins = refl; index = subst (λ (us : List Terminal). IsExpr ts e us) same d }))
   index_by_sound _ p x ts = refl
 
-  index_sound : (ts : List Terminal) → SoundAt (λ i rest. HasIndex ts i rest) (index r ts)
+  pub index_sound : (ts : List Terminal) → SoundAt (λ i rest. HasIndex ts i rest) (index r ts)
   unfolding index peek pure
   index_sound [] = refl
   index_sound (t ∷ ts) = index_by_sound t.symbol t.at t.spelling ts

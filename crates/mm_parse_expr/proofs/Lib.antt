@@ -7,3 +7,5 @@ pub mod ExprSound
 pub mod Follow
 pub mod Operators
 pub mod Windows
+mod Quoted
+pub mod WordNames

@@ -12,8 +12,9 @@ use mm_tree::{Expr, Node, Word};
 use sqlite_items::Boxed;
 use std::alloc::Global;
 
+/// `)`.
 #[tactic(auto, unfolding(crate::specs::Reading::close, mm_reading::specs::Parsing::token, mm_reading::specs::Parsing::peek, mm_reading::specs::Parsing::skip, mm_reading::specs::Parsing::pure, mm_reading::specs::Parsing::fail))]
-fn read_close<'a>(ts: &'a [Terminal<'a>]) -> Result<&'a [Terminal<'a>], Refused>
+pub fn read_close<'a>(ts: &'a [Terminal<'a>]) -> Result<&'a [Terminal<'a>], Refused>
     ensures { GivesUnit result (spec.close ts.now) }
 {
     match ts {
@@ -28,8 +29,9 @@ fn read_close<'a>(ts: &'a [Terminal<'a>]) -> Result<&'a [Terminal<'a>], Refused>
     }
 }
 
+/// A name.
 #[tactic(auto, unfolding(crate::specs::Reading::name_word, mm_reading::specs::Parsing::token, mm_reading::specs::Parsing::peek, mm_reading::specs::Parsing::skip, mm_reading::specs::Parsing::pure, mm_reading::specs::Parsing::fail))]
-fn read_name<'a>(
+pub fn read_name<'a>(
     alloc: Global,
     ts: &'a [Terminal<'a>],
 ) -> Result<(Word, &'a [Terminal<'a>]), Refused>
@@ -70,7 +72,7 @@ fn looseness(op: Binary) -> u32
 }
 
 /// The number that a symbol is, and 0 for any other.
-fn number_in(symbol: Symbol) -> i32
+pub fn number_in(symbol: Symbol) -> i32
     ensures { result ≡ spec.number_in symbol }
 {
     match symbol {
@@ -142,8 +144,9 @@ fn address_tree(alloc: Global, at: At, name: Word, index: Option<Expr>) -> Resul
     Ok(Expr { at, node })
 }
 
+/// `]`.
 #[tactic(auto, unfolding(crate::specs::Reading::close_bracket, mm_reading::specs::Parsing::token, mm_reading::specs::Parsing::peek, mm_reading::specs::Parsing::skip, mm_reading::specs::Parsing::pure, mm_reading::specs::Parsing::fail))]
-fn read_close_bracket<'a>(ts: &'a [Terminal<'a>]) -> Result<&'a [Terminal<'a>], Refused>
+pub fn read_close_bracket<'a>(ts: &'a [Terminal<'a>]) -> Result<&'a [Terminal<'a>], Refused>
     ensures { GivesUnit result (spec.close_bracket ts.now) }
 {
     match ts {
@@ -174,9 +177,11 @@ fn read_colon<'a>(ts: &'a [Terminal<'a>]) -> Result<&'a [Terminal<'a>], Refused>
     }
 }
 
+/// An index in brackets, where one stands there. It wants memory where `depth` is 0, and `bound` is above the number of
+/// tokens.
 #[cycle(reading)]
 #[tactic(auto, unfolding(crate::specs::Reading::index, mm_reading::specs::Parsing::peek, mm_reading::specs::Parsing::skip, mm_reading::specs::Parsing::pure))]
-fn read_index<'a>(
+pub fn read_index<'a>(
     alloc: Global,
     bound: usize,
     depth: u32,

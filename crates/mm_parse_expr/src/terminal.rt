@@ -1,15 +1,15 @@
 //! The tokens of a text as the grammar sees them.
 ghost use Rattle.std.specs.Prelude.{◌≡◌, All, map, IfOk};
-ghost use Rattle.mm_lexer.specs.Tokens.{IsSpan};
+ghost use Rattle.mm_lexer.specs.Tokens.{IsSpan, bytes_of};
 ghost use Rattle.mm_parse_expr.specs.Terminals as spec;
 
 use crate::symbol::{Symbol, symbol_of};
 use mm_goto::{At, NoMemory};
-use mm_lexer::Token;
+use mm_lexer::{Token, TokenKind};
 use std::alloc::Global;
 use std::marker::Model;
 
-/// The bytes of a token, in the text.
+/// The bytes of a token, in the text. Of a text they are those between its quotes.
 #[derive(Debug, Drop)]
 pub struct Spelling<'a> {
     text: &'a str,
@@ -47,6 +47,19 @@ pub struct Terminal<'a> {
     pub spelling: Spelling<'a>,
 }
 
+/// The bytes of a token, and of a text what stands between its quotes.
+fn spelling_of<'a>(text: &'a str, token: &Token) -> &'a str
+    requires { IsSpan text.now token.now }
+    ensures { result.now ≡ spec.spelling_of token.now.kind (bytes_of text.now token.now) }
+{
+    let start = token.start as usize;
+    let end = token.end as usize;
+    match token.kind {
+        TokenKind::Text => &text[start + 1..end - 1],
+        TokenKind::Name | TokenKind::Number(_) | TokenKind::Mark => &text[start..end],
+    }
+}
+
 fn terminal_of<'a>(text: &'a str, token: &Token) -> Terminal<'a>
     requires { IsSpan text.now token.now }
     ensures { result ≡ spec.terminal_of text.now token.now }
@@ -55,7 +68,7 @@ fn terminal_of<'a>(text: &'a str, token: &Token) -> Terminal<'a>
     Terminal {
         symbol: symbol_of(token.kind, bytes.as_bytes()),
         at: token.at,
-        spelling: Spelling::new(bytes),
+        spelling: Spelling::new(spelling_of(text, token)),
     }
 }
 

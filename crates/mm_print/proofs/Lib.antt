@@ -1,1 +1,11 @@
+mod Bodies
+mod Items
 pub mod Lines
+mod Lookup
+mod Mains
+mod Operands
+mod Says
+mod Signs
+mod Statements
+pub mod Whole
+pub mod FromSmall

@@ -1,1 +1,3 @@
+pub mod SmallListing
 pub mod SmallText
+pub mod Woven

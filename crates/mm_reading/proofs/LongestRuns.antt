@@ -1,7 +1,7 @@
 -- A parser that is sound and complete for a language reads the longest run of tokens that begins a value.
 use Rattle.std.proofs.Common.{◌≡◌, ℕ, ◌+◌, ◌<◌, ◌≤◌, List, [], ◌∷◌, ◌++◌, length, length-append, append_assoc, arith, Option, Some, None, refl, sym, ◌∙◌, ap, subst, ◌⊎◌, inl, inr}
 use Rattle.mm_reading.specs.Parsing.{Outcome, Parsed, Fault, head}
-use Rattle.mm_reading.specs.Runs.{Begins, IsLongestRun, IsRead, IsFirstFault}
+use Rattle.mm_reading.specs.Runs.{Begins, IsLongestRun, IsRead, IsFirstFault, IsFirstRefusal}
 use Rattle.mm_reading.proofs.Combining.{Family, At, Read, Broken}
 use Rattle.mm_reading.proofs.Onwards.{Onward, Extends}
 
@@ -18,8 +18,7 @@ no_longer {T = T} (t ∷ xs) after (r ∷ read) rest e h = omega (arith, no_long
 
 module _ {T A : Type 0} (L : List T → A → Type 0) (P C : Option T → Type 0) (q : Family T A) (at_end : C None)
     (sound : (m : ℕ) (ts : List T) (a : A) → q m ts ≡ Parsed a [] → L ts a)
-    (complete : (ts : List T) (a : A) → L ts a → (m : ℕ) → length ts < m → q m ts ≡ Parsed a [])
-    (onward : (m : ℕ) → Onward (q m)) where
+    (complete : (ts : List T) (a : A) → L ts a → (m : ℕ) → length ts < m → q m ts ≡ Parsed a []) where
   abbrev above : List T → ℕ
   above ts = length ts + 1
 
@@ -51,41 +50,51 @@ module _ {T A : Type 0} (L : List T → A → Type 0) (P C : Option T → Type 0
       none : (tail : List T) (b : A) → head tail ≡ head rest → L (h.read ++ tail) b → ⊥ ⊎ (tail ≡ [])
       none tail b s d = inr (same tail (sym (h.fits tail (inr s) (above (h.read ++ tail)) (omega arith)) ∙ complete (h.read ++ tail) b d (above (h.read ++ tail)) (omega arith)))
 
-  fault_run : (ts rest : List T) → Broken q P C rest ts → IsFirstFault L ts rest
-  fault_run ts rest h = record {
-    run = h.read;
-    is_longest = record {
-      parts = h.parts;
-      begins = (h.more ++ [], h.value, sound (above (h.read ++ (h.more ++ []))) (h.read ++ (h.more ++ [])) h.value (h.fits [] at_end (above (h.read ++ (h.more ++ []))) (omega arith)));
-      longest = stops ts h.read rest h.parts (λ tail b s d. inl (none tail b s d));
-    };
-    none = whole;
+  never : {b : A} (tail : List T) → Fault tail ≡ Parsed b [] → ⊥
+  never tail e = cc
+
+  fault_longest : (ts rest : List T) (h : Broken q P C rest ts) → IsLongestRun L ts h.read rest
+  fault_longest ts rest h = record {
+    parts = h.parts;
+    begins = (h.more ++ [], h.value, sound (above (h.read ++ (h.more ++ []))) (h.read ++ (h.more ++ [])) h.value (h.fits [] at_end (above (h.read ++ (h.more ++ []))) (omega arith)));
+    longest = stops ts h.read rest h.parts (λ tail b s d. inl (none tail b s d));
   }
     where
-      never : {b : A} (tail : List T) → Fault tail ≡ Parsed b [] → ⊥
-      never tail e = cc
-
       none : (tail : List T) (b : A) → head tail ≡ head rest → L (h.read ++ tail) b → ⊥
       none tail b s d = never tail (sym (h.same tail s (above (h.read ++ tail)) (omega arith)) ∙ complete (h.read ++ tail) b d (above (h.read ++ tail)) (omega arith))
-
-      later : {b : A} → Extends {A = A} rest (Parsed b []) (Fault rest) → ⊥
-      later (inl e) = cc
-      later (inr l) = omega arith
-
-      whole : (a : A) → L h.read a → ⊥
-      whole a d =
-          let m : ℕ = length h.read + length rest + 1 in
-          let e : q m h.read ≡ Parsed a [] = complete h.read a d m (omega arith) in
-          let f : q m (h.read ++ rest) ≡ Fault rest = h.same rest refl m (omega (arith, length-append h.read rest)) in
-          later {b = a} (subst (λ (o : Outcome T A). Extends rest o (Fault rest)) e (subst (λ (o : Outcome T A). Extends rest (q m h.read) o) f ((onward m).extends h.read rest)))
 
   -- where the parser gives a value, the longest run is that value
   pub parsed_is_read : (n : ℕ) (ts : List T) (a : A) (rest : List T) → At q P C (q n ts) ts → q n ts ≡ Parsed a rest → IsRead L ts a rest
   parsed_is_read n ts a rest h e = read_run ts a rest (subst (λ (o : Outcome T A). At q P C o ts) e h)
 
-  -- where it gives a fault, the longest run is no value, and the fault stands behind it
-  pub fault_is_first : (n : ℕ) (ts rest : List T) → At q P C (q n ts) ts → q n ts ≡ Fault rest → IsFirstFault L ts rest
-  fault_is_first n ts rest h e = fault_run ts rest (subst (λ (o : Outcome T A). At q P C o ts) e h)
+  -- where it gives a fault for all the tokens, they are no value, and the fault stands behind the longest run
+  pub fault_refuses : (n : ℕ) (ts rest : List T) → length ts < n → At q P C (q n ts) ts → q n ts ≡ Fault rest → IsFirstRefusal L ts rest
+  fault_refuses n ts rest l h e =
+      let broken : Broken q P C rest ts = subst (λ (o : Outcome T A). At q P C o ts) e h in
+      record {
+        run = broken.read;
+        is_longest = fault_longest ts rest broken;
+        none = λ a d. never rest (sym e ∙ complete ts a d n l);
+      }
+
+  module _ (onward : (m : ℕ) → Onward (q m)) where
+    fault_run : (ts rest : List T) → Broken q P C rest ts → IsFirstFault L ts rest
+    fault_run ts rest h = record { run = h.read; is_longest = fault_longest ts rest h; none = whole }
+      where
+        later : {b : A} → Extends {A = A} rest (Parsed b []) (Fault rest) → ⊥
+        later (inl e) = cc
+        later (inr l) = omega arith
+
+        whole : (a : A) → L h.read a → ⊥
+        whole a d =
+            let m : ℕ = length h.read + length rest + 1 in
+            let e : q m h.read ≡ Parsed a [] = complete h.read a d m (omega arith) in
+            let f : q m (h.read ++ rest) ≡ Fault rest = h.same rest refl m (omega (arith, length-append h.read rest)) in
+            later {b = a} (subst (λ (o : Outcome T A). Extends rest o (Fault rest)) e (subst (λ (o : Outcome T A). Extends rest (q m h.read) o) f ((onward m).extends h.read rest)))
+
+    -- where it gives a fault, the longest run is no value, and the fault stands behind it
+    pub fault_is_first : (n : ℕ) (ts rest : List T) → At q P C (q n ts) ts → q n ts ≡ Fault rest → IsFirstFault L ts rest
+    fault_is_first n ts rest h e = fault_run ts rest (subst (λ (o : Outcome T A). At q P C o ts) e h)
 
 -- ---- more tokens
 

@@ -2,8 +2,7 @@
 use Rattle.std.proofs.Common.{◌≡◌, sym, ℕ, List, codes, Option, IsUtf8, Result, Ok, Err, IfOk}
 use Rattle.mm_goto.specs.declared.ident.At.{At}
 use Rattle.mm_goto.specs.Listing.{Listing}
-use Rattle.mm_goto.specs.Place.{start, place_after}
-use Rattle.mm_parse.specs.SmallProgram.{IsSmallProgram}
+use Rattle.mm_goto.specs.Place.{place_after}
 use Rattle.mm_sched.specs.declared.entry.Rules.{Rules}
 use Rattle.mm_run.specs.declared.command.Settings.{Settings}
 use Rattle.mm_run.specs.declared.status.Status.{Status}
@@ -11,16 +10,17 @@ use Rattle.mm_run.specs.declared.status.Status.TheVariants.{Done, Refused, TooLo
 use Rattle.mm_run.specs.Input.{IsWhole, IsTooLong}
 use Rattle.mm_run.specs.Lines.{refusal_line}
 use Rattle.mm_run.specs.Parts.{IsNotUtf8, IsSplit, LacksPart}
+use Rattle.mm_run.specs.Program.{IsProgramText, IsRefused}
 use Rattle.mm_run.specs.Replay.{Replays}
-use Rattle.mm_run.specs.Answer.{AnswersText, AnswersWhole, Instruments, IsNotBuilt, IsWoven, ReplaysParts, Responds}
+use Rattle.mm_run.specs.Answer.{AnswersText, AnswersWhole, Instruments, IsWoven, Refusing, ReplaysParts, Responds}
 
 pub if_ok : {A E : Type 0} (P Q : A → Type 0) (r : Result A E) → IfOk r P → ((a : A) → P a → Q a) → IfOk r Q
 if_ok P Q (Ok a) h f = f a h
 if_ok P Q (Err e) h f = tt
 
 module _ (status : Status) (out : List ℕ) where
-  pub is_refused : (bound : ℕ) (input read : List ℕ) → read ≡ input → IsNotBuilt read → status ≡ Refused → out ≡ refusal_line start (codes "not built") → Instruments bound input status out
-  is_refused bound input read e h s o = rw (sym e, s, o) (Instruments.not_built h)
+  pub is_refused : (text : List ℕ) (at : At) (why : List ℕ) → IsRefused text at why → status ≡ Refused → out ≡ refusal_line at why → Refusing text status out
+  is_refused text at why h s o = rw (s, o) (Refusing.refused at why h)
 
   pub is_woven : (bound : ℕ) (input : List ℕ) → IsWoven input bound out → status ≡ Done → Instruments bound input status out
   is_woven bound input h s = rw s (Instruments.done h)
@@ -34,11 +34,11 @@ module _ (status : Status) (out : List ℕ) where
   pub one_part : (r : Rules) (input : List ℕ) → LacksPart input → status ≡ Refused → out ≡ refusal_line (place_after input) (codes "missing part") → ReplaysParts r input status out
   one_part r input h s o = rw (s, o) (ReplaysParts.one_part h)
 
-  pub no_program : (r : Rules) (input program schedule read : List ℕ) → IsSplit input program schedule → read ≡ program → IsNotBuilt read → status ≡ Refused → out ≡ refusal_line start (codes "not built") → ReplaysParts r input status out
-  no_program r input program schedule read p e h s o = rw (s, o) (ReplaysParts.not_built program schedule p (rw (sym e) h))
+  pub no_program : (r : Rules) (input program schedule : List ℕ) → IsSplit input program schedule → Refusing program status out → ReplaysParts r input status out
+  no_program r input program schedule p h = ReplaysParts.refused program schedule p h
 
-  pub both_parts : (r : Rules) (input program schedule read : List ℕ) (p : Listing) → IsSplit input program schedule → read ≡ program → IsSmallProgram read p → Replays r p schedule status out → ReplaysParts r input status out
-  both_parts r input program schedule read p s e m h = ReplaysParts.both program schedule p s (rw (sym e) m) h
+  pub both_parts : (r : Rules) (input program schedule : List ℕ) (p : Listing) → IsSplit input program schedule → IsProgramText program p → Replays r p schedule status out → ReplaysParts r input status out
+  both_parts r input program schedule p s m h = ReplaysParts.both program schedule p s m h
 
   pub responds_whole : (s : Settings) (old new : Option (List ℕ)) (bytes read : List ℕ) → IsWhole old new bytes → read ≡ bytes → AnswersWhole s read status out → Responds s old new status out
   responds_whole s old new bytes read w e a = Responds.whole bytes w (rw e at a)

@@ -5,8 +5,6 @@ use Rattle.std.specs.Str.{IsValidUpTo}
 use Rattle.std.proofs.Math.Seq.{drop-append_seam, take-append_seam}
 use Rattle.std.proofs.lemmas.Str.{utf8_valid_len-IsUtf8, utf8_valid_len-IsValidUpTo}
 use Rattle.mm_goto.specs.Listing.{Listing}
-use Rattle.mm_parse.specs.SmallProgram.{IsSmallProgram}
-use Rattle.mm_parse.proofs.Unique.{only_program}
 use Rattle.mm_sched.specs.declared.entry.Entry.{Entry}
 use Rattle.mm_sched.specs.declared.entry.Rules.{Rules}
 use Rattle.mm_sched.specs.State.{State, initial}
@@ -21,6 +19,8 @@ use Rattle.mm_run.specs.declared.status.Status.{Status}
 use Rattle.mm_run.specs.Accepted.{HasParts, IsAccepted, IsRun}
 use Rattle.mm_run.specs.Input.{IsTooLong}
 use Rattle.mm_run.specs.Parts.{IsSplit}
+use Rattle.mm_run.specs.Program.{IsProgramText}
+use Rattle.mm_run.proofs.Refused.{one_program, not_refused}
 use Rattle.mm_run.specs.Replay.{IsStuckBehind, Replays}
 use Rattle.mm_run.specs.Answer.{AnswersText, AnswersWhole, Instruments, ReplaysParts, Responds, IsDoneOrKept}
 
@@ -39,11 +39,9 @@ not_long xs new t l = omega (arith, t.long, no_longer xs t.bytes new t.read, l)
 
 -- ---- its parts are determined
 
-is_text : (input : List ℕ) (n : ℕ) → IsUtf8 input → IsValidUpTo input n → ⊥
+-- a text has no first byte that begins no character
+pub is_text : (input : List ℕ) (n : ℕ) → IsUtf8 input → IsValidUpTo input n → ⊥
 is_text input n u v = omega (arith, v.short, utf8_valid_len-IsUtf8 input u, utf8_valid_len-IsValidUpTo input n v)
-
-one_program : (text : List ℕ) (p q : Listing) → IsSmallProgram text p → IsSmallProgram text q → p ≡ q
-one_program text p q h k = h.flat ∙ sym (only_program text h.tree h.parsed q k)
 
 module _ (input : List ℕ) (a b c d : List ℕ) (h : IsSplit input a c) (k : IsSplit input b d) where
   same_length : length a ≡ length b
@@ -55,15 +53,15 @@ module _ (input : List ℕ) (a b c d : List ℕ) (h : IsSplit input a c) (k : Is
   back : (x y : List ℕ) → IsSplit input x y → drop (length (x ++ codes "%%\n")) input ≡ y
   back x y s = ap (λ (t : List ℕ). drop (length (x ++ codes "%%\n")) t) s.whole ∙ drop-append_seam (x ++ codes "%%\n") y
 
-  one_front : a ≡ b
+  pub one_front : a ≡ b
   one_front = sym (front a c h) ∙ ap (λ n. take n input) same_length ∙ front b d k
 
-  one_back : c ≡ d
+  pub one_back : c ≡ d
   one_back = sym (back a c h) ∙ ap (λ (x : List ℕ). drop (length (x ++ codes "%%\n")) input) one_front ∙ back b d k
 
 -- ---- the schedule is a run
 
-no_other_end : (r : Rules) (p : Listing) (from last : State) (es : List Entry) (k : ℕ) → run r p from es ≡ Some last → IsStuckBehind r p from es k → ⊥
+pub no_other_end : (r : Rules) (p : Listing) (from last : State) (es : List Entry) (k : ℕ) → run r p from es ≡ Some last → IsStuckBehind r p from es k → ⊥
 no_other_end r p from last es k e s =
     let parts : run r p from es ≡ option_and_then (λ mid. run r p mid (s.entry ∷ s.behind)) (run r p from s.before) = ap (λ (xs : List Entry). run r p from xs) s.parts ∙ run-append r p from s.before (s.entry ∷ s.behind) in
     let ahead : run r p from es ≡ option_and_then (λ mid. run r p mid s.behind) (next r p s.mid s.entry) = parts ∙ ap (λ (o : Option State). option_and_then (λ mid. run r p mid (s.entry ∷ s.behind)) o) s.runs in
@@ -80,16 +78,16 @@ module _ (r : Rules) (input : List ℕ) (h : IsRun r input) where
 
   parts : (status : Status) (out : List ℕ) → ReplaysParts r input status out → IsDoneOrKept status
   parts status out (ReplaysParts.one_part lacks) = absurd (lacks _ h.split.parting)
-  parts status out (ReplaysParts.not_built program schedule s no_program) =
+  parts status out (ReplaysParts.refused program schedule s no_program) =
       let same : program ≡ h.program = one_front input program h.program schedule h.schedule s h.split in
-      absurd (no_program h.listing (rw same h.small))
+      absurd (not_refused h.program h.listing h.accepted status out (rw (sym same) no_program))
   parts status out (ReplaysParts.both program schedule p s small e) =
       let same : program ≡ h.program = one_front input program h.program schedule h.schedule s h.split in
-      replayed p schedule status out (one_program h.program p h.listing (rw (sym same) small) h.small) (one_back input program h.program schedule h.schedule s h.split) e
+      replayed p schedule status out (one_program h.program p h.listing (rw (sym same) small) h.accepted) (one_back input program h.program schedule h.schedule s h.split) e
 
-instrumented : (bound : ℕ) (input : List ℕ) (p : Listing) → IsSmallProgram input p → (status : Status) (out : List ℕ) → Instruments bound input status out → IsDoneOrKept status
+instrumented : (bound : ℕ) (input : List ℕ) (p : Listing) → IsProgramText input p → (status : Status) (out : List ℕ) → Instruments bound input status out → IsDoneOrKept status
 instrumented bound input p h status out (Instruments.done w) = tt
-instrumented bound input p h status out (Instruments.not_built n) = absurd (n p h)
+instrumented bound input p h status out (Instruments.refused r) = absurd (not_refused input p h status out r)
 
 -- ---- the answer
 

@@ -9,3 +9,7 @@ pub mod Sectionless
 pub mod Straight
 pub mod Weaving
 pub mod Writing
+mod OneAnswer
+mod OneAnswerCause
+mod OneAnswerSchedule
+mod Refused

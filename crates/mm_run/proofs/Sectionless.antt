@@ -6,11 +6,13 @@ use Rattle.mm_goto.specs.declared.program.Instr.{Instr}
 use Rattle.mm_goto.specs.declared.program.Instr.TheVariants.{Jump, End}
 use Rattle.mm_goto.specs.declared.program.Thread.{Thread}
 use Rattle.mm_goto.specs.Listing.{Listing}
-use Rattle.mm_parse.specs.declared.small.tree.Small.{Small}
-use Rattle.mm_parse.specs.declared.small.tree.Statement.{Statement}
-use Rattle.mm_parse.specs.declared.small.tree.Statement.TheVariants as statement
+use Rattle.mm_parse.specs.declared.small_program.tree.Small.{Small}
+use Rattle.mm_parse.specs.declared.small_program.tree.Statement.{Statement}
+use Rattle.mm_parse.specs.declared.small_program.tree.Statement.TheVariants as statement
 use Rattle.mm_parse.specs.Flat.{body_code, main_of}
 use Rattle.mm_parse.specs.SmallProgram.{IsSmallProgram}
+use Rattle.mm_tree.specs.declared.item.Tree.{Tree}
+use Rattle.mm_run.proofs.Alike.{is_listing}
 use Rattle.mm_sched.specs.Sections.{HasNoSection, is_section}
 
 abbrev IsOutside : Instr → Type 0
@@ -25,5 +27,5 @@ body_outside l n (statement.Assert at cell_at c z ∷ ss) behind h = (refl, (ref
 main_outside : (p : Small) → All IsOutside (main_of p).code
 main_outside p = All-from_recursion IsOutside (main_of p).code (body_outside 0 1 p.body (Jump (length (body_code 0 1 p.body) + 1) ∷ End ∷ []) (refl, (refl, tt)))
 
-pub no_section : (text : List ℕ) (p : Listing) → IsSmallProgram text p → HasNoSection p
-no_section text p s = subst HasNoSection (sym s.flat) (All-from_recursion (λ (t : Thread). All IsOutside t.code) (main_of s.tree ∷ []) (main_outside s.tree, tt))
+pub no_section : (tree : Tree) (p : Listing) → IsSmallProgram tree p → HasNoSection p
+no_section tree p s = subst HasNoSection (sym (is_listing tree p s)) (All-from_recursion (λ (t : Thread). All IsOutside t.code) (main_of s.small ∷ []) (main_outside s.small, tt))

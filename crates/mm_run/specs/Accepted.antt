@@ -8,10 +8,10 @@ use Rattle.mm_sched.specs.declared.schedule.Line.{Line}
 use Rattle.mm_sched.specs.State.{State, initial}
 use Rattle.mm_sched.specs.Runs.{run}
 use Rattle.mm_sched.specs.ScheduleText.{IsSchedule, entries_in}
-use Rattle.mm_parse.specs.SmallProgram.{IsSmallProgram}
 use Rattle.mm_run.specs.declared.command.Settings.{Settings}
 use Rattle.mm_run.specs.declared.command.Settings.TheVariants.{Instrument, ReplaySc, Replay}
 use Rattle.mm_run.specs.Parts.{IsSplit}
+use Rattle.mm_run.specs.Program.{IsProgramText}
 
 -- a program and a schedule that is a run of it
 pub record IsRun (r : Rules) (input : List ℕ) : Type 0 where
@@ -21,13 +21,13 @@ pub record IsRun (r : Rules) (input : List ℕ) : Type 0 where
   pub lines : List Line
   pub last : State
   pub split : IsSplit input program schedule
-  pub small : IsSmallProgram program listing
+  pub accepted : IsProgramText program listing
   pub fits : IsSchedule schedule lines
   pub runs : run r listing (initial listing) (entries_in lines) ≡ Some last
 
 -- the parts of the input are what the command asks for
 abbrev pub HasParts : Settings → List ℕ → Type 0
-HasParts (Instrument m bound) input = (p : Listing) × IsSmallProgram input p
+HasParts (Instrument m bound) input = (p : Listing) × IsProgramText input p
 HasParts ReplaySc input = IsRun Sc input
 HasParts (Replay m bound) input = IsRun (Buffered m bound) input
 

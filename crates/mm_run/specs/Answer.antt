@@ -4,12 +4,13 @@ use Rattle.std.specs.Str.{IsUtf8}
 use Rattle.std.specs.Io.KnownBytes.{Appends}
 use Rattle.mm_goto.specs.declared.ident.At.{At}
 use Rattle.mm_goto.specs.Listing.{Listing}
-use Rattle.mm_goto.specs.Place.{start, place_after}
+use Rattle.mm_goto.specs.Place.{place_after}
 use Rattle.mm_goto.specs.declared.model.Model.TheVariants.{Tso}
 use Rattle.mm_sched.specs.declared.entry.Rules.{Rules}
 use Rattle.mm_sched.specs.declared.entry.Rules.TheVariants.{Sc, Buffered}
 use Rattle.mm_sched.specs.Runs.{Reaches}
-use Rattle.mm_parse.specs.SmallProgram.{IsSmallProgram}
+use Rattle.mm_tree.specs.declared.side.Side.TheVariants.{Output}
+use Rattle.mm_parse.specs.Meaning.{IsProgramOf}
 use Rattle.mm_print.specs.SmallText.{small_text}
 use Rattle.mm_run.specs.declared.command.Settings.{Settings}
 use Rattle.mm_run.specs.declared.command.Settings.TheVariants.{Instrument, ReplaySc, Replay}
@@ -19,34 +20,36 @@ use Rattle.mm_run.specs.Input.{IsWhole, IsTooLong}
 use Rattle.mm_run.specs.Lines.{refusal_line}
 use Rattle.mm_run.specs.Output.{AppendsPart}
 use Rattle.mm_run.specs.Parts.{IsNotUtf8, IsSplit, LacksPart}
+use Rattle.mm_run.specs.Program.{IsProgramText, IsRefused}
 use Rattle.mm_run.specs.Replay.{Replays}
-use Rattle.mm_run.specs.Woven.{woven}
 
 -- under sequential consistency q fails just the assertions that p fails with store buffers of this bound under TSO
 abbrev pub FailsAsBuffered : Listing → Listing → ℕ → Type 0
 FailsAsBuffered q p bound = (n : ℕ) → Reaches Sc q n ↔ Reaches (Buffered Tso bound) p n
 
--- the program of the input is woven for the bound, its text is the output, and the woven program fails as it does
+-- The output is the text of the woven program of the input's program. It is a program of the same grammar, and any goto
+-- program that it has fails under sequential consistency as the input's program does with store buffers of this bound.
 pub record IsWoven (input : List ℕ) (bound : ℕ) (out : List ℕ) : Type 0 where
   pub program : Listing
-  pub small : IsSmallProgram input program
+  pub accepted : IsProgramText input program
   pub text : out ≡ small_text program bound
-  pub alike : FailsAsBuffered (woven program) program bound
+  pub printed : (q : Listing) × IsProgramOf Output out q
+  pub alike : (q : Listing) → IsProgramOf Output out q → FailsAsBuffered q program bound
 
--- the input is no small program
-abbrev pub IsNotBuilt : List ℕ → Type 0
-IsNotBuilt input = (p : Listing) → IsSmallProgram input p → ⊥
+-- the text is refused, and the output says where and why
+pub data Refusing (text : List ℕ) : Status → List ℕ → Type 0 where
+  refused : (at : At) (why : List ℕ) → IsRefused text at why → Refusing text Refused (refusal_line at why)
 
 -- the status and the output of `instrument`
 pub data Instruments (bound : ℕ) (input : List ℕ) : Status → List ℕ → Type 0 where
   done : {out : List ℕ} → IsWoven input bound out → Instruments bound input Done out
-  not_built : IsNotBuilt input → Instruments bound input Refused (refusal_line start (codes "not built"))
+  refused : {status : Status} {out : List ℕ} → Refusing input status out → Instruments bound input status out
 
 -- the status and the output of `replay` on the machine of these rules
 pub data ReplaysParts (r : Rules) (input : List ℕ) : Status → List ℕ → Type 0 where
   one_part : LacksPart input → ReplaysParts r input Refused (refusal_line (place_after input) (codes "missing part"))
-  not_built : (program schedule : List ℕ) → IsSplit input program schedule → IsNotBuilt program → ReplaysParts r input Refused (refusal_line start (codes "not built"))
-  both : {status : Status} {out : List ℕ} (program schedule : List ℕ) (p : Listing) → IsSplit input program schedule → IsSmallProgram program p → Replays r p schedule status out → ReplaysParts r input status out
+  refused : {status : Status} {out : List ℕ} (program schedule : List ℕ) → IsSplit input program schedule → Refusing program status out → ReplaysParts r input status out
+  both : {status : Status} {out : List ℕ} (program schedule : List ℕ) (p : Listing) → IsSplit input program schedule → IsProgramText program p → Replays r p schedule status out → ReplaysParts r input status out
 
 -- the status and the output for an input that is a text
 abbrev pub AnswersText : Settings → List ℕ → Status → List ℕ → Type 0

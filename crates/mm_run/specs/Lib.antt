@@ -4,7 +4,8 @@ pub mod Input
 pub mod Lines
 pub mod Output
 pub mod Parts
+pub mod Program
+pub mod Refusal
 pub mod Replay
 pub mod Settings
 pub mod Status
-pub mod Woven

@@ -1,17 +1,17 @@
 ghost use Rattle.std.specs.Prelude.{◌≡◌, ◌≤◌, ℕ, List, length, codes, IfOk, string_bytes};
-ghost use Rattle.mm_goto.specs.Place.{start};
 ghost use Rattle.mm_goto.specs.Valid.{IsValid};
-ghost use Rattle.mm_parse.specs.SmallProgram.{IsSmallProgram};
-ghost use Rattle.mm_run.specs.Answer.{AnswersText, AnswersWhole, Instruments, IsWoven};
+ghost use Rattle.mm_run.specs.Answer.{AnswersText, AnswersWhole, Instruments, IsWoven, Refusing};
 ghost use Rattle.mm_run.specs.Lines.{refusal_line};
+ghost use Rattle.mm_run.specs.Program.{IsProgramText};
+ghost use Rattle.mm_run.specs.Refusal.{Refuses};
 
 use crate::command::Settings;
 use crate::input::MAX_INPUT;
 use crate::parts::text_of;
+use crate::program::{ProgramFault, program_of};
 use crate::replay::{Memory, answer_replay};
 use crate::status::Status;
 use mm_goto::{At, Bound, NoMemory, Program};
-use mm_parse::{SmallFault, parse_small};
 use mm_print::print_small;
 use std::alloc::Global;
 
@@ -34,18 +34,21 @@ pub fn refused(alloc: Global, at: At, why: &str) -> Result<Answer, NoMemory>
     })
 }
 
-/// The answer that a program is read by no part of the tool yet.
-pub fn not_built(alloc: Global) -> Result<Answer, NoMemory>
-    ensures { IfOk result (λ answer. (answer.status ≡ Status.Refused) × (string_bytes answer.output ≡ refusal_line start (codes "not built"))) }
+/// The answer to the text of a program that is refused.
+pub fn answer_fault(alloc: Global, fault: ProgramFault) -> Result<Answer, NoMemory>
+    ensures { IfOk result (λ answer. (text : List ℕ) → Refuses text fault → Refusing text answer.status (string_bytes answer.output)) }
 {
-    refused(alloc, At::start(), "not built")
+    match fault {
+        ProgramFault::Refused(refusal) => refused(alloc, refusal.at, &refusal.why),
+        ProgramFault::NoMemory => Err(NoMemory),
+    }
 }
 
 // The text of the woven program of a small program.
 #[tactic(auto, using(crate::proofs::Alike::is_woven))]
 fn weave(alloc: Global, program: &Program, bound: Bound) -> Result<String, NoMemory>
     requires { IsValid program.now }
-    ensures { IfOk result (λ text. (input : List ℕ) → IsSmallProgram input program.now → IsWoven input bound (string_bytes text)) }
+    ensures { IfOk result (λ text. (input : List ℕ) → IsProgramText input program.now → IsWoven input bound (string_bytes text)) }
 {
     // Each thread may have a pending store.
     let _ = bound.get();
@@ -57,13 +60,12 @@ fn answer_instrument(alloc: Global, bound: Bound, input: &str) -> Result<Answer,
     requires { length input.now ≤ MAX_INPUT }
     ensures { IfOk result (λ answer. Instruments bound input.now answer.status (string_bytes answer.output)) }
 {
-    match parse_small(alloc, input.as_bytes()) {
+    match program_of(alloc, input) {
         Ok(program) => Ok(Answer {
             status: Status::Done,
             output: weave(alloc, &program, bound)?,
         }),
-        Err(SmallFault::NotBuilt) => not_built(alloc),
-        Err(SmallFault::NoMemory) => Err(NoMemory),
+        Err(fault) => answer_fault(alloc, fault),
     }
 }
 

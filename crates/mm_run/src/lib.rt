@@ -4,11 +4,14 @@
 mod answer;
 mod command;
 mod input;
+pub mod laws;
 mod machine;
 mod output;
 mod parts;
+mod program;
 mod replay;
 mod status;
+pub mod tables;
 mod top;
 mod words;
 

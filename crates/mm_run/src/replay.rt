@@ -9,14 +9,14 @@ ghost use Rattle.mm_run.specs.Answer.{ReplaysParts};
 ghost use Rattle.mm_run.specs.Lines.{bad_line, refusal_line, stuck_line, verdict_line};
 ghost use Rattle.mm_run.specs.Replay.{Replays, rules_of};
 
-use crate::answer::{Answer, not_built, refused};
+use crate::answer::{Answer, answer_fault, refused};
 use crate::input::MAX_INPUT;
 use crate::machine::{Machine, take_lines};
 use crate::parts::{place_after, split};
+use crate::program::program_of;
 use crate::status::Status;
 use mm_buf::Buf;
 use mm_goto::{Bound, Model, NoMemory, Program};
-use mm_parse::{SmallFault, parse_small};
 use mm_sc::Sc;
 use mm_sched::{Line, SchedFault, read_schedule};
 use std::alloc::Global;
@@ -139,10 +139,9 @@ pub fn answer_replay(alloc: Global, memory: Memory, input: &str) -> Result<Answe
     ensures { IfOk result (λ answer. ReplaysParts (rules_of memory) input.now answer.status (string_bytes answer.output)) }
 {
     match split(input) {
-        Some((program, schedule)) => match parse_small(alloc, program.as_bytes()) {
+        Some((program, schedule)) => match program_of(alloc, program) {
             Ok(program) => replay_text(alloc, memory, &program, schedule),
-            Err(SmallFault::NotBuilt) => not_built(alloc),
-            Err(SmallFault::NoMemory) => Err(NoMemory),
+            Err(fault) => answer_fault(alloc, fault),
         },
         None => missing_part(alloc, input),
     }

@@ -1,6 +1,6 @@
-use Rattle.std.proofs.Common.{ap, Err}
-use Rattle.mm_run.proofs.Answering.{if_ok, is_refused}
+use Rattle.mm_run.proofs.Answering.{if_ok}
+use Rattle.mm_run.specs.Answer.{Instruments}
 use Rattle.mm_run.proofs.answer.answer_instrument.Goals as goal
 
-pub returns-in-Err-NotBuilt : goal.returns-in-Err-NotBuilt
-returns-in-Err-NotBuilt c = if_ok _ _ _ c.not_built.ensures (λ a h. is_refused _ _ _ _ _ c.as_bytes.ensures.value (c.in-Err-NotBuilt.ensures.not_built (ap Err c.in-Err-NotBuilt.field-0-is)) h.0 h.1)
+pub returns-in-Err : goal.returns-in-Err
+returns-in-Err c = if_ok _ _ _ c.answer_fault.ensures (λ a h. Instruments.refused (h c.args.input.now c.in-Err.ensures.refused))

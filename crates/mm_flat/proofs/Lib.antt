@@ -1,0 +1,4 @@
+pub mod Codes
+pub mod Programs
+mod Shapes
+mod Values

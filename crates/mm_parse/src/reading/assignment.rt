@@ -1,0 +1,147 @@
+//! Assignments.
+ghost use Rattle.std.specs.Prelude.{◌≡◌};
+ghost use Rattle.mm_reading.specs.Gives.{Gives};
+ghost use Rattle.mm_parse.specs.Begun.{updated};
+ghost use Rattle.mm_parse.specs.StatementGrammar as grammar;
+ghost use Rattle.mm_parse.specs.StatementReading as spec;
+
+use super::left::read_left;
+use super::value::read_value;
+use mm_goto::{At, Binary};
+use mm_parse_expr::{Symbol, Terminal, read_expr};
+use mm_reading::Refused;
+use mm_tree::{Expr, Left, Node, StmtNode};
+use std::alloc::Global;
+
+/// The number 1, at this place.
+pub fn one(at: At) -> Expr
+    ensures { result ≡ grammar.one at }
+{
+    let node = Node::Number(1);
+    Expr { at, node }
+}
+
+/// The operator of an update, and `+` for any other symbol.
+fn updated(symbol: Symbol) -> Binary
+    ensures { result ≡ updated symbol }
+{
+    match symbol {
+        Symbol::Update(op) => op,
+        _ => Binary::Add,
+    }
+}
+
+/// What stands behind a left side.
+#[tactic(auto, unfolding(crate::specs::StatementReading::set, mm_reading::specs::Parsing::peek, mm_reading::specs::Parsing::skip, mm_reading::specs::Parsing::pure, mm_reading::specs::Parsing::fail))]
+pub fn read_set<'a>(
+    alloc: Global,
+    bound: usize,
+    depth: u32,
+    left: Left,
+    ts: &'a [Terminal<'a>],
+) -> Result<(StmtNode, &'a [Terminal<'a>]), Refused>
+    ensures { Gives result (spec.set bound left ts.now) }
+{
+    match ts {
+        [
+            Terminal {
+                symbol: Symbol::Assign,
+                ..
+            },
+            rest @ ..,
+        ] => {
+            let (value, rest) = read_value(alloc, bound, depth, rest)?;
+            Ok((StmtNode::Assign(left, value), rest))
+        }
+        [
+            Terminal {
+                symbol: symbol @ Symbol::Update(_),
+                ..
+            },
+            rest @ ..,
+        ] => {
+            let (expr, rest) = read_expr(alloc, bound, depth, rest)?;
+            Ok((StmtNode::Update(left, updated(*symbol), expr), rest))
+        }
+        [
+            Terminal {
+                symbol: Symbol::Increment,
+                at,
+                ..
+            },
+            rest @ ..,
+        ] => Ok((StmtNode::Update(left, Binary::Add, one(*at)), rest)),
+        [
+            Terminal {
+                symbol: Symbol::Decrement,
+                at,
+                ..
+            },
+            rest @ ..,
+        ] => Ok((StmtNode::Update(left, Binary::Sub, one(*at)), rest)),
+        _ => Err(Refused::Fault(ts.len())),
+    }
+}
+
+/// What stands behind `++`.
+#[tactic(auto, unfolding(crate::specs::StatementReading::increment, mm_reading::specs::Parsing::pure))]
+pub fn read_increment<'a>(
+    alloc: Global,
+    bound: usize,
+    depth: u32,
+    first: &Terminal<'a>,
+    ts: &'a [Terminal<'a>],
+) -> Result<(StmtNode, &'a [Terminal<'a>]), Refused>
+    ensures { Gives result (spec.increment bound first.now ts.now) }
+{
+    let (left, rest) = read_left(alloc, bound, depth, ts)?;
+    Ok((StmtNode::Update(left, Binary::Add, one(first.at)), rest))
+}
+
+/// What stands behind `--`.
+#[tactic(auto, unfolding(crate::specs::StatementReading::decrement, mm_reading::specs::Parsing::pure))]
+pub fn read_decrement<'a>(
+    alloc: Global,
+    bound: usize,
+    depth: u32,
+    first: &Terminal<'a>,
+    ts: &'a [Terminal<'a>],
+) -> Result<(StmtNode, &'a [Terminal<'a>]), Refused>
+    ensures { Gives result (spec.decrement bound first.now ts.now) }
+{
+    let (left, rest) = read_left(alloc, bound, depth, ts)?;
+    Ok((StmtNode::Update(left, Binary::Sub, one(first.at)), rest))
+}
+
+/// An assignment. It wants memory where `depth` is 0, and `bound` is above the number of tokens.
+#[tactic(auto, unfolding(crate::specs::StatementReading::assign, mm_reading::specs::Parsing::peek, mm_reading::specs::Parsing::skip, mm_reading::specs::Parsing::fail))]
+pub fn read_assign<'a>(
+    alloc: Global,
+    bound: usize,
+    depth: u32,
+    ts: &'a [Terminal<'a>],
+) -> Result<(StmtNode, &'a [Terminal<'a>]), Refused>
+    ensures { Gives result (spec.assign bound ts.now) }
+{
+    match ts {
+        [] => Err(Refused::Fault(0)),
+        [
+            first @ Terminal {
+                symbol: Symbol::Increment,
+                ..
+            },
+            rest @ ..,
+        ] => read_increment(alloc, bound, depth, first, rest),
+        [
+            first @ Terminal {
+                symbol: Symbol::Decrement,
+                ..
+            },
+            rest @ ..,
+        ] => read_decrement(alloc, bound, depth, first, rest),
+        _ => {
+            let (left, rest) = read_left(alloc, bound, depth, ts)?;
+            read_set(alloc, bound, depth, left, rest)
+        }
+    }
+}

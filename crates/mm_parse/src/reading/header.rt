@@ -1,0 +1,145 @@
+//! What stands in the parentheses behind a word: the test of a statement, and the three parts of a loop.
+ghost use Rattle.mm_reading.specs.Gives.{Gives};
+ghost use Rattle.mm_parse.specs.Begun as begun;
+ghost use Rattle.mm_parse.specs.StatementReading as spec;
+
+use super::assignment::{one, read_assign};
+use super::declaration::read_declaration;
+use super::marks::{read_open_mark, read_semicolon};
+use mm_parse_expr::{Keyword, Symbol, Terminal, read_close, read_expr};
+use mm_reading::Refused;
+use mm_tree::{Expr, Stmt};
+use sqlite_items::Boxed;
+use std::alloc::Global;
+
+/// A test in parentheses.
+#[tactic(auto, unfolding(crate::specs::Begun::test, mm_reading::specs::Parsing::pure))]
+pub fn read_test<'a>(
+    alloc: Global,
+    bound: usize,
+    depth: u32,
+    ts: &'a [Terminal<'a>],
+) -> Result<(Expr, &'a [Terminal<'a>]), Refused>
+    ensures { Gives result (begun.test bound ts.now) }
+{
+    let rest = read_open_mark(ts)?;
+    let (test, rest) = read_expr(alloc, bound, depth, rest)?;
+    let rest = read_close(rest)?;
+    Ok((test, rest))
+}
+
+/// What a loop begins with, and `;`.
+#[tactic(auto, unfolding(crate::specs::StatementReading::first, mm_reading::specs::Parsing::peek, mm_reading::specs::Parsing::skip, mm_reading::specs::Parsing::pure, mm_reading::specs::Parsing::fail))]
+fn read_first<'a>(
+    alloc: Global,
+    bound: usize,
+    depth: u32,
+    ts: &'a [Terminal<'a>],
+) -> Result<(Option<Boxed<Stmt>>, &'a [Terminal<'a>]), Refused>
+    ensures { Gives result (spec.first bound ts.now) }
+{
+    match ts {
+        [] => Err(Refused::Fault(0)),
+        [
+            Terminal {
+                symbol: Symbol::Semicolon,
+                ..
+            },
+            rest @ ..,
+        ] => Ok((None, rest)),
+        [
+            first @ Terminal {
+                symbol: Symbol::Keyword(Keyword::Int | Keyword::Volatile | Keyword::Thread),
+                ..
+            },
+            rest @ ..,
+        ] => {
+            let (node, rest) = read_declaration(alloc, bound, depth, first, rest)?;
+            let at = first.at;
+            Ok((Some(Boxed::new(alloc, Stmt { at, node })?), rest))
+        }
+        [Terminal { at, .. }, ..] => {
+            let (node, rest) = read_assign(alloc, bound, depth, ts)?;
+            let rest = read_semicolon(rest)?;
+            Ok((Some(Boxed::new(alloc, Stmt { at: *at, node })?), rest))
+        }
+    }
+}
+
+/// The test of a loop, which is 1 where there is none, and `;`.
+#[tactic(auto, unfolding(crate::specs::StatementReading::condition, mm_reading::specs::Parsing::peek, mm_reading::specs::Parsing::skip, mm_reading::specs::Parsing::pure, mm_reading::specs::Parsing::fail))]
+fn read_condition<'a>(
+    alloc: Global,
+    bound: usize,
+    depth: u32,
+    ts: &'a [Terminal<'a>],
+) -> Result<(Expr, &'a [Terminal<'a>]), Refused>
+    ensures { Gives result (spec.condition bound ts.now) }
+{
+    match ts {
+        [] => Err(Refused::Fault(0)),
+        [
+            Terminal {
+                symbol: Symbol::Semicolon,
+                at,
+                ..
+            },
+            rest @ ..,
+        ] => Ok((one(*at), rest)),
+        _ => {
+            let (test, rest) = read_expr(alloc, bound, depth, ts)?;
+            let rest = read_semicolon(rest)?;
+            Ok((test, rest))
+        }
+    }
+}
+
+/// What a loop does between its rounds, and `)`.
+#[tactic(auto, unfolding(crate::specs::StatementReading::step, mm_reading::specs::Parsing::peek, mm_reading::specs::Parsing::skip, mm_reading::specs::Parsing::pure, mm_reading::specs::Parsing::fail))]
+fn read_step<'a>(
+    alloc: Global,
+    bound: usize,
+    depth: u32,
+    ts: &'a [Terminal<'a>],
+) -> Result<(Option<Boxed<Stmt>>, &'a [Terminal<'a>]), Refused>
+    ensures { Gives result (spec.step bound ts.now) }
+{
+    match ts {
+        [] => Err(Refused::Fault(0)),
+        [
+            Terminal {
+                symbol: Symbol::Close,
+                ..
+            },
+            rest @ ..,
+        ] => Ok((None, rest)),
+        [Terminal { at, .. }, ..] => {
+            let (node, rest) = read_assign(alloc, bound, depth, ts)?;
+            let rest = read_close(rest)?;
+            Ok((Some(Boxed::new(alloc, Stmt { at: *at, node })?), rest))
+        }
+    }
+}
+
+/// What a loop begins with, its test and what it does between its rounds, in parentheses.
+#[tactic(auto, unfolding(crate::specs::Begun::header, mm_reading::specs::Parsing::pure))]
+pub fn read_header<'a>(
+    alloc: Global,
+    bound: usize,
+    depth: u32,
+    ts: &'a [Terminal<'a>],
+) -> Result<
+    (
+        (Option<Boxed<Stmt>>, Expr, Option<Boxed<Stmt>>),
+        &'a [Terminal<'a>],
+    ),
+    Refused,
+>
+    ensures { Gives result (begun.header bound ts.now) }
+{
+    let rest = read_open_mark(ts)?;
+    let (first, rest) = read_first(alloc, bound, depth, rest)?;
+    let (test, rest) = read_condition(alloc, bound, depth, rest)?;
+    let (step, rest) = read_step(alloc, bound, depth, rest)?;
+    Ok(((first, test, step), rest))
+}

@@ -1,0 +1,119 @@
+-- A refused text has one cause, which tells the place and the words.
+use Rattle.std.proofs.Common.{◌≡◌, ℕ, List, [], ◌++◌, length, drop, codes, refl, sym, ◌∙◌, ap, subst, arith}
+use Rattle.std.proofs.Math.Seq.{drop-append_seam}
+use Rattle.mm_goto.specs.declared.ident.At.{At}
+use Rattle.mm_goto.specs.Place.{start}
+use Rattle.mm_lexer.specs.declared.token.Token.{Token}
+use Rattle.mm_lexer.specs.declared.token.LexFault.{LexFault}
+use Rattle.mm_lexer.specs.declared.token.LexFault.TheVariants as lex_fault
+use Rattle.mm_lexer.specs.Tokens.{IsFirstFault}
+use Rattle.mm_lexer.proofs.Unique.{fault_unique, tokens_or_fault, tokens_unique}
+use Rattle.mm_reading.specs.Runs.{Language, IsLongestRun}
+use Rattle.mm_tree.specs.declared.side.Side.{Side}
+use Rattle.mm_tree.specs.declared.side.Side.TheVariants.{Source}
+use Rattle.mm_parse_expr.specs.declared.fault.ParseFault.{ParseFault}
+use Rattle.mm_parse_expr.specs.declared.fault.ParseFault.TheVariants as parse_fault
+use Rattle.mm_parse_expr.specs.Faults.{fault_at}
+use Rattle.mm_parse.specs.Faults.{IsFault}
+use Rattle.mm_run.specs.declared.status.Status.{Status}
+use Rattle.mm_run.specs.Answer.{Refusing}
+use Rattle.mm_run.specs.Lines.{refusal_line}
+use Rattle.mm_run.specs.Program.{HasFault, IsNotBuilt, IsRefused}
+use Rattle.mm_run.proofs.Refused.{no_fault, no_parse_fault}
+
+-- ---- the fault of the grammar is one
+
+-- two longest runs have the same tokens behind them
+one_rest : {T A : Type 0} (L : Language T A) (ts run rest other left : List T) → IsLongestRun L ts run rest → IsLongestRun L ts other left → rest ≡ left
+one_rest {T = T} L ts run rest other left h k = sym (behind run rest h.parts) ∙ ap (λ n. drop n ts) same ∙ behind other left k.parts
+  where
+    same : length run ≡ length other
+    same = omega (arith, h.longest other left k.parts k.begins, k.longest run rest h.parts h.begins)
+
+    behind : (front back : List T) → front ++ back ≡ ts → drop (length front) ts ≡ back
+    behind front back e = ap (λ us. drop (length front) us) (sym e) ∙ drop-append_seam front back
+
+-- the tokens have one fault at most
+one_fault : (side : Side) (text : List ℕ) (tokens : List Token) (a b : ParseFault) → IsFault side text tokens a → IsFault side text tokens b → a ≡ b
+one_fault side text tokens a b (IsFault.too_deep at e) (IsFault.too_deep by f) = cc
+one_fault side text tokens a b (IsFault.too_deep at e) (IsFault.no_program left f k) = cc
+one_fault side text tokens a b (IsFault.no_program rest e h) (IsFault.too_deep by f) = cc
+one_fault side text tokens a b (IsFault.no_program rest e h) (IsFault.no_program left f k) = ap (fault_at text) (one_rest _ _ h.run rest k.run left h.is_longest k.is_longest)
+
+-- ---- causes
+
+-- why a text is refused
+data Cause : Type 0 where
+  of_tokens : LexFault → Cause
+  of_grammar : ParseFault → Cause
+  not_built : Cause
+
+abbrev HasCause : List ℕ → Cause → Type 0
+HasCause text (Cause.of_tokens fault) = IsFirstFault text fault
+HasCause text (Cause.of_grammar fault) = HasFault text fault
+HasCause text Cause.not_built = IsNotBuilt text
+
+-- the place of a cause; want of memory refuses no text
+abbrev place_of : Cause → At
+place_of (Cause.of_tokens (lex_fault.BadToken at)) = at
+place_of (Cause.of_tokens (lex_fault.NumberTooLarge at)) = at
+place_of (Cause.of_tokens lex_fault.NoMemory) = start
+place_of (Cause.of_grammar (parse_fault.TooDeep at)) = at
+place_of (Cause.of_grammar (parse_fault.OutsideProfile word at)) = at
+place_of (Cause.of_grammar (parse_fault.BadSyntax at)) = at
+place_of (Cause.of_grammar parse_fault.NoMemory) = start
+place_of Cause.not_built = start
+
+-- and its words
+abbrev words_of : Cause → List ℕ
+words_of (Cause.of_tokens (lex_fault.BadToken at)) = codes "bad token"
+words_of (Cause.of_tokens (lex_fault.NumberTooLarge at)) = codes "number too large"
+words_of (Cause.of_tokens lex_fault.NoMemory) = []
+words_of (Cause.of_grammar (parse_fault.TooDeep at)) = codes "too deep"
+words_of (Cause.of_grammar (parse_fault.OutsideProfile word at)) = codes "outside profile: " ++ word
+words_of (Cause.of_grammar (parse_fault.BadSyntax at)) = codes "bad syntax"
+words_of (Cause.of_grammar parse_fault.NoMemory) = []
+words_of Cause.not_built = codes "not built"
+
+-- a text has one cause at most
+one_cause : (text : List ℕ) (a b : Cause) → HasCause text a → HasCause text b → a ≡ b
+one_cause text (Cause.of_tokens f) (Cause.of_tokens g) h k = ap Cause.of_tokens (fault_unique text f g h k)
+one_cause text (Cause.of_tokens f) (Cause.of_grammar g) h k = absurd (tokens_or_fault text k.tokens f k.cut h)
+one_cause text (Cause.of_tokens f) Cause.not_built h k = absurd (no_fault text k.tree k.read f h)
+one_cause text (Cause.of_grammar f) (Cause.of_tokens g) h k = absurd (tokens_or_fault text h.tokens g h.cut k)
+one_cause text (Cause.of_grammar f) (Cause.of_grammar g) h k = ap Cause.of_grammar (one_fault Source text k.tokens f g (subst (λ (ts : List Token). IsFault Source text ts f) (tokens_unique text h.tokens k.tokens h.cut k.cut) h.fails) k.fails)
+one_cause text (Cause.of_grammar f) Cause.not_built h k = absurd (no_parse_fault text k.tree k.read f h)
+one_cause text Cause.not_built (Cause.of_tokens g) h k = absurd (no_fault text h.tree h.read g k)
+one_cause text Cause.not_built (Cause.of_grammar g) h k = absurd (no_parse_fault text h.tree h.read g k)
+one_cause text Cause.not_built Cause.not_built h k = refl
+
+-- ---- refusals
+
+-- the cause of a refusal
+record Caused (text : List ℕ) (at : At) (why : List ℕ) : Type 0 where
+  cause : Cause
+  has : HasCause text cause
+  place : at ≡ place_of cause
+  words : why ≡ words_of cause
+
+caused : (text : List ℕ) (at : At) (why : List ℕ) → IsRefused text at why → Caused text at why
+caused text at why (IsRefused.bad_token q f) = record { cause = Cause.of_tokens (lex_fault.BadToken q); has = f; place = refl; words = refl }
+caused text at why (IsRefused.large_number q f) = record { cause = Cause.of_tokens (lex_fault.NumberTooLarge q); has = f; place = refl; words = refl }
+caused text at why (IsRefused.too_deep q f) = record { cause = Cause.of_grammar (parse_fault.TooDeep q); has = f; place = refl; words = refl }
+caused text at why (IsRefused.outside word q f) = record { cause = Cause.of_grammar (parse_fault.OutsideProfile word q); has = f; place = refl; words = refl }
+caused text at why (IsRefused.bad_syntax q f) = record { cause = Cause.of_grammar (parse_fault.BadSyntax q); has = f; place = refl; words = refl }
+caused text at why (IsRefused.not_built f) = record { cause = Cause.not_built; has = f; place = refl; words = refl }
+
+-- a refusal has one place and one reason
+one_refusal : (text : List ℕ) (at place : At) (why words : List ℕ) → IsRefused text at why → IsRefused text place words → (at ≡ place) × (why ≡ words)
+one_refusal text at place why words h k =
+    let a = caused text at why h in
+    let b = caused text place words k in
+    let same = one_cause text a.cause b.cause a.has b.has in
+    (a.place ∙ ap place_of same ∙ sym b.place, a.words ∙ ap words_of same ∙ sym b.words)
+
+-- and so one status and one output
+pub one_refusing : (input : List ℕ) (a b : Status) (out text : List ℕ) → Refusing input a out → Refusing input b text → (a ≡ b) × (out ≡ text)
+one_refusing input a b out text (Refusing.refused at why h) (Refusing.refused place words k) =
+    let same = one_refusal input at place why words h k in
+    (refl, ap (λ q. refusal_line q why) same.0 ∙ ap (refusal_line place) same.1)

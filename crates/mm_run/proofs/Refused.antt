@@ -1,0 +1,86 @@
+-- A text has one goto program or is refused, and not both.
+use Rattle.std.proofs.Common.{◌≡◌, ◌≢◌, ℕ, List, map, Option, Some, None, refl, sym, ◌∙◌, ap, subst}
+use Rattle.mm_goto.specs.declared.ident.At.{At}
+use Rattle.mm_goto.specs.Listing.{Listing}
+use Rattle.mm_lexer.specs.declared.token.Token.{Token}
+use Rattle.mm_lexer.specs.declared.token.LexFault.{LexFault}
+use Rattle.mm_lexer.specs.Tokens.{AreTokens, IsFirstFault}
+use Rattle.mm_lexer.proofs.Unique.{tokens_unique, tokens_or_fault}
+use Rattle.mm_tree.specs.declared.item.Tree.{Tree}
+use Rattle.mm_tree.specs.declared.side.Side.{Side}
+use Rattle.mm_tree.specs.declared.side.Side.TheVariants.{Source}
+use Rattle.mm_flat.specs.Flattening.{IsFlat}
+use Rattle.mm_flat.proofs.Programs.{one_listing}
+use Rattle.mm_parse_expr.specs.declared.fault.ParseFault.{ParseFault}
+use Rattle.mm_parse_expr.specs.declared.terminal.Terminal.{Terminal}
+use Rattle.mm_parse_expr.specs.Terminals.{terminal_of}
+use Rattle.mm_parse.specs.Faults.{IsFault, Parses}
+use Rattle.mm_parse.specs.Meaning.{IsTreeOf}
+use Rattle.mm_parse.specs.Nesting.{deep_at}
+use Rattle.mm_parse.specs.ProgramGrammar.{IsProgram}
+use Rattle.mm_parse.specs.SmallProgram.{IsSmallProgram}
+use Rattle.mm_parse.proofs.ProgramComplete.{one_program as one_grammar_tree}
+use Rattle.mm_lexer.specs.declared.token.LexFault.TheVariants as lex_fault
+use Rattle.mm_parse_expr.specs.declared.fault.ParseFault.TheVariants as parse_fault
+use Rattle.mm_run.specs.declared.program.ProgramFault.{ProgramFault}
+use Rattle.mm_run.specs.declared.program.ProgramFault.TheVariants as program_fault
+use Rattle.mm_run.specs.Refusal.{Says, Refuses}
+use Rattle.mm_run.specs.declared.status.Status.{Status}
+use Rattle.mm_run.specs.Answer.{Refusing}
+use Rattle.mm_run.specs.Program.{HasFault, IsProgramText, IsRefused}
+
+-- the tree of the tokens is that of the text
+pub tree_of : (side : Side) (text : List ℕ) (tokens read : List Token) (tree : Tree) → read ≡ tokens → AreTokens text tokens → Parses side text read tree → IsTreeOf side text tree
+tree_of side text tokens read tree same cut h = let there : Parses side text tokens tree = subst (λ (ts : List Token). Parses side text ts tree) same h in record { tokens = tokens; cut = cut; shallow = there.shallow; parsed = there.program }
+
+pub one_tree : (side : Side) (text : List ℕ) (a b : Tree) → IsTreeOf side text a → IsTreeOf side text b → a ≡ b
+one_tree side text a b h k =
+    let same : h.tokens ≡ k.tokens = tokens_unique text h.tokens k.tokens h.cut k.cut in
+    one_grammar_tree (map (terminal_of text) h.tokens) a b h.parsed (subst (λ (ts : List Token). IsProgram (map (terminal_of text) ts) b) (sym same) k.parsed)
+
+pub one_program : (text : List ℕ) (p q : Listing) → IsProgramText text p → IsProgramText text q → p ≡ q
+one_program text p q h k =
+    let same : h.tree ≡ k.tree = one_tree Source text h.tree k.tree h.read k.read in
+    one_listing Source h.tree p q h.small.flat (subst (λ (t : Tree). IsFlat Source t q) (sym same) k.small.flat)
+
+-- a text that has a tree has no fault of its tokens and none of the grammar
+module _ (text : List ℕ) (tree : Tree) (h : IsTreeOf Source text tree) where
+  pub no_fault : (fault : LexFault) → IsFirstFault text fault → ⊥
+  no_fault fault f = tokens_or_fault text h.tokens fault h.cut f
+
+  never : {at : At} {o : Option At} → o ≡ None → o ≡ Some at → ⊥
+  never e f = cc
+
+  parsed : (fault : ParseFault) → IsFault Source text h.tokens fault → ⊥
+  parsed fault (IsFault.too_deep at e) = never h.shallow e
+  parsed fault (IsFault.no_program rest e f) = f.none tree h.parsed
+
+  pub no_parse_fault : (fault : ParseFault) → HasFault text fault → ⊥
+  no_parse_fault fault f = parsed fault (subst (λ (ts : List Token). IsFault Source text ts fault) (tokens_unique text f.tokens h.tokens f.cut h.cut) f.fails)
+
+module _ (text : List ℕ) (p : Listing) (h : IsProgramText text p) where
+  pub accepted : (at : At) (why : List ℕ) → IsRefused text at why → ⊥
+  accepted at why (IsRefused.bad_token q f) = no_fault text h.tree h.read _ f
+  accepted at why (IsRefused.large_number q f) = no_fault text h.tree h.read _ f
+  accepted at why (IsRefused.too_deep q f) = no_parse_fault text h.tree h.read _ f
+  accepted at why (IsRefused.outside word q f) = no_parse_fault text h.tree h.read _ f
+  accepted at why (IsRefused.bad_syntax q f) = no_parse_fault text h.tree h.read _ f
+  accepted at why (IsRefused.not_built f) = f.none p (subst (λ (t : Tree). IsSmallProgram t p) (one_tree Source text h.tree f.tree h.read f.read) h.small)
+
+  pub not_refused : (status : Status) (out : List ℕ) → Refusing text status out → ⊥
+  not_refused status out (Refusing.refused at why r) = accepted at why r
+
+-- ---- what a fault says
+
+-- a fault that says why the text is refused refuses it
+pub refuses : (text : List ℕ) (at : At) (why : List ℕ) (fault : ProgramFault) → IsRefused text at why → Says fault at why → Refuses text fault
+refuses text at why (program_fault.Refused r) h s = rw (s.0, s.1) h
+refuses text at why program_fault.NoMemory h s = tt
+
+-- a fault that is known, of tokens
+pub lexed : (text : List ℕ) (fault f : LexFault) → fault ≡ f → (f ≡ lex_fault.NoMemory → ⊥) → (fault ≢ lex_fault.NoMemory → IsFirstFault text fault) → IsFirstFault text f
+lexed text fault f e n h = subst (λ (x : LexFault). IsFirstFault text x) e (h (λ m. n (sym e ∙ m)))
+
+-- and of the grammar
+pub known : (text : List ℕ) (tokens : List Token) (fault f : ParseFault) → AreTokens text tokens → fault ≡ f → (f ≡ parse_fault.NoMemory → ⊥) → (fault ≢ parse_fault.NoMemory → IsFault Source text tokens fault) → HasFault text f
+known text tokens fault f t e n h = record { tokens = tokens; cut = t; fails = subst (λ (x : ParseFault). IsFault Source text tokens x) e (h (λ m. n (sym e ∙ m))) }

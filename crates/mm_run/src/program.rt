@@ -1,0 +1,91 @@
+ghost use Rattle.std.specs.Prelude.{◌≡◌, ◌≢◌, ◌≤◌, ◌++◌, ℕ, List, length, codes, string_bytes, IfOk, IfErr};
+ghost use Rattle.mm_goto.specs.Valid.{IsValid};
+ghost use Rattle.mm_lexer.specs.Tokens.{AreTokens, IsFirstFault};
+ghost use Rattle.mm_lexer.specs.declared.token.Token.{Token as TokenValue};
+ghost use Rattle.mm_tree.specs.declared.side.Side.TheVariants.{Source};
+ghost use Rattle.mm_parse.specs.Faults.{IsFault};
+ghost use Rattle.mm_run.specs.Program.{IsProgramText};
+ghost use Rattle.mm_run.specs.Refusal.{Says, Refuses};
+
+use crate::input::MAX_INPUT;
+use mm_goto::{At, NoMemory, Program};
+use mm_lexer::{LexFault, lex};
+use mm_parse::{ParseFault, SmallFault, parse, small};
+use mm_tree::Side;
+use std::alloc::Global;
+
+/// Why a program is refused, and where.
+#[derive(Debug, Drop)]
+pub struct Refusal {
+    pub at: At,
+    pub why: String,
+}
+
+/// Why a text gave no program.
+#[derive(Debug, Drop)]
+pub enum ProgramFault {
+    Refused(Refusal),
+    NoMemory,
+}
+
+fn refuse(alloc: Global, at: At, why: &str) -> ProgramFault
+    ensures { Says result at why.now }
+{
+    match String::from_str(alloc, why) {
+        Ok(why) => ProgramFault::Refused(Refusal { at, why }),
+        Err(_) => ProgramFault::NoMemory,
+    }
+}
+
+fn outside_profile(alloc: Global, at: At, word: &str) -> ProgramFault
+    ensures { Says result at (codes "outside profile: " ++ word.now) }
+{
+    match format!(in alloc; "outside profile: {word}") {
+        Ok(why) => ProgramFault::Refused(Refusal { at, why }),
+        Err(_) => ProgramFault::NoMemory,
+    }
+}
+
+fn unlexed(alloc: Global, fault: LexFault) -> ProgramFault
+    ensures { (text : List ℕ) → (fault ≢ LexFault.NoMemory → IsFirstFault text fault) → Refuses text result }
+{
+    match fault {
+        LexFault::BadToken(at) => refuse(alloc, at, "bad token"),
+        LexFault::NumberTooLarge(at) => refuse(alloc, at, "number too large"),
+        LexFault::NoMemory => ProgramFault::NoMemory,
+    }
+}
+
+fn unparsed(alloc: Global, fault: ParseFault) -> ProgramFault
+    ensures { (text : List ℕ) (tokens : List TokenValue) → AreTokens text tokens → (fault ≢ ParseFault.NoMemory → IsFault Source text tokens fault) → Refuses text result }
+{
+    match fault {
+        ParseFault::TooDeep(at) => refuse(alloc, at, "too deep"),
+        ParseFault::OutsideProfile(word, at) => outside_profile(alloc, at, word.text()),
+        ParseFault::BadSyntax(at) => refuse(alloc, at, "bad syntax"),
+        ParseFault::NoMemory => ProgramFault::NoMemory,
+    }
+}
+
+/// The goto program of a text, or why it is refused: by the first of these stages that refuses it: tokens, nesting, the
+/// grammar, and what is built.
+pub fn program_of(alloc: Global, text: &str) -> Result<Program, ProgramFault>
+    requires { length text.now ≤ MAX_INPUT }
+    ensures program { IfOk result (λ program. IsProgramText text.now program) }
+    ensures valid { IfOk result IsValid }
+    ensures refused { IfErr result (λ fault. Refuses text.now fault) }
+{
+    let tokens = match lex(alloc, text) {
+        Ok(tokens) => tokens,
+        Err(fault) => return Err(unlexed(alloc, fault)),
+    };
+    let tree = match parse(alloc, text, &tokens, Side::Source) {
+        Ok(tree) => tree,
+        Err(fault) => return Err(unparsed(alloc, fault)),
+    };
+    match small(alloc, &tree) {
+        Ok(program) => Ok(program),
+        Err(SmallFault::NotBuilt) => Err(refuse(alloc, At::start(), "not built")),
+        Err(SmallFault::NoMemory) => Err(ProgramFault::NoMemory),
+    }
+}
