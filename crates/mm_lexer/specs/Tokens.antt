@@ -66,3 +66,11 @@ pub record IsFirstFault (text : List ℕ) (fault : LexFault) : Type 0 where
   pub rest : List ℕ
   pub read : Reads start (chars text) before place rest
   pub fails : fault_of (piece_at place.is_head rest) place.at ≡ Some fault
+
+-- the text begins with separators and at least one token
+pub record HasToken (text : List ℕ) : Type 0 where
+  pub first : Token
+  pub others : List Token
+  pub place : Place
+  pub rest : List ℕ
+  pub read : Reads start (chars text) (first ∷ others) place rest

@@ -1,5 +1,5 @@
 ghost use Rattle.std.specs.Prelude.{◌≡◌, ◌≢◌, ◌≤◌, All, length, IfOk, IfErr};
-ghost use Rattle.mm_lexer.specs.Tokens.{AreTokens, IsSpan, AreInOrder, IsFirstFault};
+ghost use Rattle.mm_lexer.specs.Tokens.{AreTokens, IsSpan, AreInOrder, IsFirstFault, HasToken};
 
 use crate::piece::{Piece, piece_at};
 use crate::place::{after, start};
@@ -13,6 +13,7 @@ pub fn lex(alloc: Global, text: &str) -> Result<Vec<Token>, LexFault>
     ensures spans { IfOk result (λ tokens. All (IsSpan text.now) tokens.items) }
     ensures in_order { IfOk result (λ tokens. AreInOrder 0 tokens.items) }
     ensures fault { IfErr result (λ fault. fault ≢ LexFault.NoMemory → IsFirstFault text.now fault) }
+    ensures memory { IfErr result (λ fault. fault ≡ LexFault.NoMemory → HasToken text.now) }
 {
     let mut tokens = Vec::new(alloc);
     let mut place = start();
