@@ -12,4 +12,6 @@ mod outside;
 #[cfg(test)]
 mod replay;
 #[cfg(test)]
+mod schedules;
+#[cfg(test)]
 mod store_buffering;

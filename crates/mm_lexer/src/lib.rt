@@ -7,8 +7,6 @@ pub mod laws;
 mod lexing;
 mod piece;
 mod place;
-#[cfg(test)]
-mod tests;
 mod token;
 
 pub use front::is_name;

@@ -6,8 +6,6 @@ mod nesting;
 mod program;
 mod reading;
 mod small_program;
-#[cfg(test)]
-mod tests;
 
 pub use mm_parse_expr::ParseFault;
 pub use nesting::{Counts, deep_at};

@@ -7,8 +7,6 @@ mod parse;
 mod reading;
 mod symbol;
 mod terminal;
-#[cfg(test)]
-mod tests;
 
 pub use fault::{ParseFault, fault_at};
 pub use parse::{DEPTH, TOKENS, parse_expr, parse_unary};

@@ -20,6 +20,3 @@ pub use machine::Machine;
 pub use read::read_schedule;
 pub use schedule::{Line, SchedFault, Schedule};
 pub use write::write_schedule;
-
-#[cfg(test)]
-mod tests;

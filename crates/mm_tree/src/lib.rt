@@ -12,6 +12,3 @@ pub use expr::{Expr, Node, Word};
 pub use item::{Gives, Global, Item, Param, Tree};
 pub use side::Side;
 pub use stmt::{Left, LeftNode, Local, Stmt, StmtNode, Value};
-
-#[cfg(test)]
-mod tests;

@@ -1,6 +1,6 @@
-use crate::{ParseFault, parse_expr, parse_unary};
 use mm_goto::{At, Binary};
 use mm_lexer::{LexFault, lex};
+use mm_parse_expr::{ParseFault, parse_expr, parse_unary};
 use mm_tree::{Expr, Node};
 
 #[derive(Debug, Drop)]

@@ -1,5 +1,5 @@
-use crate::{Entry, Line, SchedFault, Schedule, read_schedule, write_schedule};
 use mm_goto::List;
+use mm_sched::{Entry, Line, SchedFault, Schedule, read_schedule, write_schedule};
 use std::test::Fail;
 
 /// Texts that are no schedules, each with its bad line.

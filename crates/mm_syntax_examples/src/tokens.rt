@@ -1,8 +1,8 @@
 //! Tokens of whole texts, and the first place at which none stands.
 ghost use Rattle.std.specs.Prelude.{◌≤◌, length, IfOk};
 
-use crate::{LexFault, Token, TokenKind, lex};
 use mm_goto::At;
+use mm_lexer::{LexFault, Token, TokenKind, lex};
 use std::test::Fail;
 
 const NAME: TokenKind = TokenKind::Name;

@@ -1,7 +1,8 @@
-use crate::expr::{Expr, Node, Word};
-use crate::item::{self, Gives, Item, Param, Tree};
-use crate::stmt::{Left, LeftNode, Local, Stmt, StmtNode, Value};
 use mm_goto::{At, Binary, Ident, List, NoMemory, Unary};
+use mm_tree::{
+    Expr, Gives, Global as Variable, Item, Left, LeftNode, Local, Node, Param, Stmt, StmtNode,
+    Tree, Value, Word,
+};
 use sqlite_items::{Boxed, Items};
 use std::alloc::Global;
 use std::test::Fail;
@@ -174,15 +175,15 @@ impl Maker {
         Ok(StmtNode::While(self.variable("x")?, self.inner(empty)?))
     }
 
-    fn globals(&self) -> Result<List<item::Global>, NoMemory> {
-        let array = item::Global {
+    fn globals(&self) -> Result<List<Variable>, NoMemory> {
+        let array = Variable {
             at: self.at,
             pointer: false,
             name: self.name("a")?,
             len: Some(10),
             init: self.exprs()?,
         };
-        let pointer = item::Global {
+        let pointer = Variable {
             at: self.at,
             pointer: true,
             name: self.name("p")?,

@@ -1,6 +1,6 @@
-use crate::{ParseFault, parse};
 use mm_goto::{At, NoMemory};
 use mm_lexer::{LexFault, lex};
+use mm_parse::{ParseFault, parse};
 use mm_tree::{Side, Tree};
 use std::alloc::{AllocError, Global};
 

@@ -1,0 +1,11 @@
+//! Examples of the crates that read a text: its tokens, its expressions, its tree, and what is told of a fault.
+#![tactic(auto)]
+
+#[cfg(test)]
+mod expressions;
+#[cfg(test)]
+mod programs;
+#[cfg(test)]
+mod tokens;
+#[cfg(test)]
+mod trees;
