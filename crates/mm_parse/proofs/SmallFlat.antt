@@ -1,5 +1,5 @@
 -- The goto program of a small program is the flattening of its tree.
-use Rattle.std.proofs.Common.{◌≡◌, ℕ, ◌+◌, ℤ, pos, Bool, true, false, cond, if◌then◌else◌, int_lt, List, [], ◌∷◌, ◌++◌, map, length, sum_by, codes, Option, Some, None, option_map, refl, sym, ◌∙◌, ap, ap₂, subst, append_assoc, append-nil, arith, length-append}
+use Rattle.std.proofs.Common.{◌≡◌, ℕ, ◌+◌, ℤ, pos, Bool, true, false, cond, if◌then◌else◌, int_lt, List, [], ◌∷◌, ◌++◌, map, length, sum_by, codes, Option, Some, None, option_map, option_and_then, refl, sym, ◌∙◌, ap, ap₂, subst, append_assoc, arith, length-append}
 use Rattle.std.specs.List.{prefix_len}
 use Rattle.std.specs.Str.{bytes_eq}
 use Rattle.std.proofs.lemmas.List.{length-map, map-append}
@@ -210,33 +210,28 @@ return_read vs st at (open_stmt.Return (Some (value.Plain e))) h i code m len l 
     by _ k j = cc
 return_read vs st at _ h i code m len l a rest = cc
 
--- what the statements before `return 0` are, and their code
-record IsBodyRead (vs : List Ident) (done : List Statement) (sts : List Stmt) (b : Body) : Type 0 where
-  ss : List Statement
-  same : b.statements ≡ done ++ ss
-  code_is : (code : List Placed) (m : ℕ) → length code ≡ m + 1 → (l a : ℕ) (rest : List Placed) → AreCode (around vs code) (known l a) sts (placed_body l a ss ++ placed b.return_at (Jump m) ∷ rest) (known_behind l a ss) rest
+-- the code of a body
+record IsBodyRead (vs : List Ident) (sts : List Stmt) (b : Body) : Type 0 where
+  code_is : (code : List Placed) (m : ℕ) → length code ≡ m + 1 → (l a : ℕ) (rest : List Placed) → AreCode (around vs code) (known l a) sts (placed_body l a b.statements ++ placed b.return_at (Jump m) ∷ rest) (known_behind l a b.statements) rest
 
 -- nothing stands before `return 0`
-last_read : (vs : List Ident) (done : List Statement) (st : Stmt) (b : Body) (o : Option At) → shape.return_of st ≡ o → option_map (λ (at : At). record { statements = done; return_at = at }) o ≡ Some b → IsBodyRead vs done (st ∷ []) b
-last_read vs done st b None h i = cc
-last_read vs done st b (Some at) h i = subst (IsBodyRead vs done (st ∷ [])) (same_Some _ _ i) (record {
-  ss = [];
-  same = sym (append-nil done);
-  code_is = λ code m len l a rest. flat.more (return_read vs st at (out-StmtNode (out-Stmt st).node) refl h code m len l a rest) flat.none;
-})
+last_read : (vs : List Ident) (st : Stmt) (b : Body) (o : Option At) → shape.return_of st ≡ o → option_map (λ (at : At). record { statements = []; return_at = at }) o ≡ Some b → IsBodyRead vs (st ∷ []) b
+last_read vs st b None h i = cc
+last_read vs st b (Some at) h i = subst (IsBodyRead vs (st ∷ [])) (same_Some _ _ i) (record { code_is = λ code m len l a rest. flat.more (return_read vs st at (out-StmtNode (out-Stmt st).node) refl h code m len l a rest) flat.none })
 
 -- one statement more stands before it
-more_read : (vs : List Ident) (done : List Statement) (st : Stmt) (sts : List Stmt) (b : Body) (s : Statement) → IsRead vs st s → IsBodyRead vs (done ++ s ∷ []) sts b → IsBodyRead vs done (st ∷ sts) b
-more_read vs done st sts b s h r = record {
-  ss = s ∷ r.ss;
-  same = r.same ∙ append_assoc done (s ∷ []) r.ss;
-  code_is = λ code m len l a rest. subst (λ is. AreCode (around vs code) (known l a) (st ∷ sts) is (known_behind l a (s ∷ r.ss)) rest) (sym (append_assoc (placed_statement l a s) (placed_body (l + reads s) (a + asserts s) r.ss) (placed b.return_at (Jump m) ∷ rest))) (flat.more (h code l a (placed_body (l + reads s) (a + asserts s) r.ss ++ placed b.return_at (Jump m) ∷ rest)) (r.code_is code m len (l + reads s) (a + asserts s) rest));
-}
+more_read : (vs : List Ident) (st : Stmt) (sts : List Stmt) (b : Body) (s : Statement) → IsRead vs st s → IsBodyRead vs sts b → IsBodyRead vs (st ∷ sts) (shape.statement_before s b)
+more_read vs st sts b s h r = record { code_is = λ code m len l a rest. subst (λ is. AreCode (around vs code) (known l a) (st ∷ sts) is (known_behind l a (s ∷ b.statements)) rest) (sym (append_assoc (placed_statement l a s) (placed_body (l + reads s) (a + asserts s) b.statements) (placed b.return_at (Jump m) ∷ rest))) (flat.more (h code l a (placed_body (l + reads s) (a + asserts s) b.statements ++ placed b.return_at (Jump m) ∷ rest)) (r.code_is code m len (l + reads s) (a + asserts s) rest)) }
 
-body_read : (vs : List Ident) (sts : List Stmt) (done : List Statement) (b : Body) → shape.body_from vs done sts ≡ Some b → IsBodyRead vs done sts b
-body_read vs [] done b h = cc
-body_read vs (st ∷ []) done b h = last_read vs done st b (shape.return_of st) refl h
-body_read vs (st ∷ u ∷ sts) done b h = option_and_then_some (λ x. shape.body_from vs (done ++ x ∷ []) (u ∷ sts)) (shape.statement_of vs st) b h (λ s i k. more_read vs done st (u ∷ sts) b s (statement_read vs st s (out-StmtNode (out-Stmt st).node) refl i) (body_read vs (u ∷ sts) (done ++ s ∷ []) b k))
+-- it stands before what the others are, where they are a body
+more_body_read : (vs : List Ident) (st : Stmt) (sts : List Stmt) (b : Body) (s : Statement) → IsRead vs st s → (o : Option Body) → ((c : Body) → o ≡ Some c → IsBodyRead vs sts c) → option_map (shape.statement_before s) o ≡ Some b → IsBodyRead vs (st ∷ sts) b
+more_body_read vs st sts b s h None k i = cc
+more_body_read vs st sts b s h (Some c) k i = subst (IsBodyRead vs (st ∷ sts)) (same_Some _ _ i) (more_read vs st sts c s h (k c refl))
+
+body_read : (vs : List Ident) (sts : List Stmt) (b : Body) → shape.body_of vs sts ≡ Some b → IsBodyRead vs sts b
+body_read vs [] b h = cc
+body_read vs (st ∷ []) b h = last_read vs st b (shape.return_of st) refl h
+body_read vs (st ∷ u ∷ sts) b h = option_and_then_some (λ x. option_map (shape.statement_before x) (shape.body_of vs (u ∷ sts))) (shape.statement_of vs st) b h (λ s i k. more_body_read vs st (u ∷ sts) b s (statement_read vs st s (out-StmtNode (out-Stmt st).node) refl i) (shape.body_of vs (u ∷ sts)) (body_read vs (u ∷ sts)) k)
 
 -- ---- items
 
@@ -249,49 +244,44 @@ item_before : (x : Ident) {is others : List Item} {cells : List Cell} (i : Item)
 item_before x (item.Globals (g ∷ [])) h k = cell_before x g.at g.pointer g.name g.len g.init h k
 item_before x _ h k = cc
 
--- what the variables before main are, and its body
-record IsItemsRead (vs : List Ident) (is : List Item) (s : Small) : Type 0 where
-  names : List Ident
-  body : List Stmt
-  all : s.variables ≡ vs ++ names
-  cells : AreCells is (map cell names) (main_item s.main_at body ∷ [])
-  read : shape.body_from s.variables [] body ≡ Some (record { statements = s.body; return_at = s.return_at })
+-- a variable stands before those that the others declare
+more_cells_read : (x : Ident) (i last : Item) (is : List Item) (vs : List Ident) → shape.variable_of i ≡ Some x → (o : Option (List Ident)) → ((xs : List Ident) → o ≡ Some xs → AreCells is (map cell xs) (last ∷ [])) → option_map (λ xs. x ∷ xs) o ≡ Some vs → AreCells (i ∷ is) (map cell vs) (last ∷ [])
+more_cells_read x i last is vs h None k e = cc
+more_cells_read x i last is vs h (Some xs) k e = subst (λ (vs : List Ident). AreCells (i ∷ is) (map cell vs) (last ∷ [])) (same_Some _ _ e) (item_before x i h (k xs refl))
 
-main_read : (vs : List Ident) (at : At) (kind : Gives) (x : Ident) (params : List Param) (body : List Stmt) (s : Small) → shape.main_in vs at kind x params body ≡ Some s → IsItemsRead vs (item.Function at kind x params body ∷ []) s
+-- each item before the last has a cell
+items_read : (is : List Item) (vs : List Ident) (last : Item) → shape.last_item is ≡ Some last → shape.variables_in is ≡ Some vs → AreCells is (map cell vs) (last ∷ [])
+items_read [] vs last h e = cc
+items_read (i ∷ []) vs last h e = subst (λ (vs : List Ident). AreCells (i ∷ []) (map cell vs) (last ∷ [])) (same_Some _ _ e) (subst (λ (last : Item). AreCells (i ∷ []) [] (last ∷ [])) (same_Some _ _ h) flat.none)
+items_read (i ∷ j ∷ is) vs last h e = option_and_then_some (λ x. option_map (λ xs. x ∷ xs) (shape.variables_in (j ∷ is))) (shape.variable_of i) vs e (λ x k l. more_cells_read x i last (j ∷ is) vs k (shape.variables_in (j ∷ is)) (λ xs f. items_read (j ∷ is) xs last h f) l)
+
+-- the item is main, and its body is that of the small program
+record IsMainRead (vs : List Ident) (i : Item) (s : Small) : Type 0 where
+  body : List Stmt
+  variables : vs ≡ s.variables
+  main : i ≡ main_item s.main_at body
+  read : shape.body_of s.variables body ≡ Some (record { statements = s.body; return_at = s.return_at })
+
+main_read : (vs : List Ident) (at : At) (kind : Gives) (x : Ident) (params : List Param) (body : List Stmt) (s : Small) → shape.main_in vs at kind x params body ≡ Some s → IsMainRead vs (item.Function at kind x params body) s
 main_read vs at gives.Int x [] body s h = by (bytes_eq x (codes "main")) refl h
   where
-    found : x ≡ codes "main" → (o : Option Body) → shape.body_from vs [] body ≡ o → option_map (shape.whole vs at) o ≡ Some s → IsItemsRead vs (item.Function at gives.Int x [] body ∷ []) s
+    found : x ≡ codes "main" → (o : Option Body) → shape.body_of vs body ≡ o → option_map (shape.whole vs at) o ≡ Some s → IsMainRead vs (item.Function at gives.Int x [] body) s
     found e None i k = cc
-    found e (Some b) i k = subst (IsItemsRead vs (item.Function at gives.Int x [] body ∷ [])) (same_Some _ _ k) (record {
-      names = [];
+    found e (Some b) i k = subst (IsMainRead vs (item.Function at gives.Int x [] body)) (same_Some _ _ k) (record {
       body = body;
-      all = sym (append-nil vs);
-      cells = subst (λ y. AreCells (item.Function at gives.Int y [] body ∷ []) [] (main_item at body ∷ [])) (sym e) flat.none;
+      variables = refl;
+      main = ap (λ y. item.Function at gives.Int y [] body) e;
       read = i;
     })
 
-    by : (b : Bool) → bytes_eq x (codes "main") ≡ b → if b then option_map (shape.whole vs at) (shape.body_from vs [] body) else None ≡ Some s → IsItemsRead vs (item.Function at gives.Int x [] body ∷ []) s
-    by true e k = found ((bytes_eq-Decides x (codes "main")).0 e) (shape.body_from vs [] body) refl k
+    by : (b : Bool) → bytes_eq x (codes "main") ≡ b → if b then option_map (shape.whole vs at) (shape.body_of vs body) else None ≡ Some s → IsMainRead vs (item.Function at gives.Int x [] body) s
+    by true e k = found ((bytes_eq-Decides x (codes "main")).0 e) (shape.body_of vs body) refl k
     by false e k = cc
 main_read vs at _ x _ body s h = cc
 
-last_item_read : (vs : List Ident) (i : Item) (s : Small) → shape.main_of vs i ≡ Some s → IsItemsRead vs (i ∷ []) s
+last_item_read : (vs : List Ident) (i : Item) (s : Small) → shape.main_of vs i ≡ Some s → IsMainRead vs i s
 last_item_read vs (item.Function at kind x params body) s h = main_read vs at kind x params body s h
 last_item_read vs _ s h = cc
-
-items_read : (is : List Item) (vs : List Ident) (s : Small) → shape.small_from vs is ≡ Some s → IsItemsRead vs is s
-items_read [] vs s h = cc
-items_read (i ∷ []) vs s h = last_item_read vs i s h
-items_read (i ∷ j ∷ is) vs s h = option_and_then_some (λ x. shape.small_from (vs ++ x ∷ []) (j ∷ is)) (shape.variable_of i) s h (λ x e k. one x e (items_read (j ∷ is) (vs ++ x ∷ []) s k))
-  where
-    one : (x : Ident) → shape.variable_of i ≡ Some x → IsItemsRead (vs ++ x ∷ []) (j ∷ is) s → IsItemsRead vs (i ∷ j ∷ is) s
-    one x e r = record {
-      names = x ∷ r.names;
-      body = r.body;
-      all = r.all ∙ append_assoc vs (x ∷ []) r.names;
-      cells = item_before x i e r.cells;
-      read = r.read;
-    }
 
 -- ---- the whole
 
@@ -302,11 +292,11 @@ placed_main s = placed_body 0 0 s.body ++ placed s.return_at (Jump (length (body
 main_length : (s : Small) → length (placed_main s) ≡ length (body_code 0 1 s.body) + 1 + 1
 main_length s = simp length-append (omega (arith, length-map (placed_body 0 0 s.body) (λ i. i.instr), ap (λ (is : List Instr). length is) (instrs_of_body 0 0 1 s.body (omega arith))))
 
-main_flat : (s : Small) (body : List Stmt) → IsBodyRead s.variables [] body (record { statements = s.body; return_at = s.return_at }) → IsMain Source (map cell s.variables) s.main_at body (main_of s)
+main_flat : (s : Small) (body : List Stmt) → IsBodyRead s.variables body (record { statements = s.body; return_at = s.return_at }) → IsMain Source (map cell s.variables) s.main_at body (main_of s)
 main_flat s body r = record {
   code = placed_main s;
   last = known_behind 0 0 s.body;
-  body_code = subst (λ ls. AreCode (record { side = Source; cells = map cell s.variables; code = placed_main s; labels = ls }) flat.nothing_known body (placed_main s) (known_behind 0 0 s.body) (placed s.main_at End ∷ [])) (sym (labels_behind 0 0 s.body)) (subst (λ ss. AreCode (around s.variables (placed_main s)) flat.nothing_known body (placed_body 0 0 ss ++ placed s.return_at (Jump (length (body_code 0 1 s.body) + 1)) ∷ placed s.main_at End ∷ []) (known_behind 0 0 ss) (placed s.main_at End ∷ [])) (sym r.same) (r.code_is (placed_main s) (length (body_code 0 1 s.body) + 1) (main_length s) 0 0 (placed s.main_at End ∷ [])));
+  body_code = subst (λ ls. AreCode (record { side = Source; cells = map cell s.variables; code = placed_main s; labels = ls }) flat.nothing_known body (placed_main s) (known_behind 0 0 s.body) (placed s.main_at End ∷ [])) (sym (labels_behind 0 0 s.body)) (r.code_is (placed_main s) (length (body_code 0 1 s.body) + 1) (main_length s) 0 0 (placed s.main_at End ∷ []));
   instrs = sym (map-append (λ (i : Placed). i.instr) (placed_body 0 0 s.body) _ ∙ ap (λ is. is ++ Jump (length (body_code 0 1 s.body) + 1) ∷ End ∷ []) (instrs_of_body 0 0 1 s.body (omega arith)));
   places = sym (map-append (λ (i : Placed). i.at) (placed_body 0 0 s.body) _ ∙ ap (λ ps. ps ++ s.return_at ∷ s.main_at ∷ []) (places_of_body 0 0 s.body));
   locals = omega (arith, next_behind 0 0 s.body);
@@ -314,15 +304,17 @@ main_flat s body r = record {
 
 -- the program is the flattening of the tree
 pub small_flat : (tree : Tree) (s : Small) → small_of tree ≡ Some s → IsFlat Source tree (listing_of s)
-small_flat tree s h = by (items_read tree.items [] s h)
+small_flat tree s h =
+    option_and_then_some (λ vs. option_and_then (shape.main_of vs) (shape.last_item tree.items)) (shape.variables_in tree.items) s h (λ vs i k.
+    option_and_then_some (shape.main_of vs) (shape.last_item tree.items) s k (λ last j m. by vs last j i (last_item_read vs last s m)))
   where
-    by : IsItemsRead [] tree.items s → IsFlat Source tree (listing_of s)
-    by r = record {
+    by : (vs : List Ident) (last : Item) → shape.last_item tree.items ≡ Some last → shape.variables_in tree.items ≡ Some vs → IsMainRead vs last s → IsFlat Source tree (listing_of s)
+    by vs last j i r = record {
       at = s.main_at;
       body = r.body;
       thread = main_of s;
-      cells = subst (λ vs. AreCells tree.items (map cell vs) (main_item s.main_at r.body ∷ [])) (sym r.all) r.cells;
+      cells = subst (λ (i : Item). AreCells tree.items (map cell s.variables) (i ∷ [])) r.main (items_read tree.items s.variables last j (i ∙ ap Some r.variables));
       mutexes = refl;
-      main = main_flat s r.body (body_read s.variables r.body [] (record { statements = s.body; return_at = s.return_at }) r.read);
+      main = main_flat s r.body (body_read s.variables r.body (record { statements = s.body; return_at = s.return_at }) r.read);
       threads = refl;
     }

@@ -4,7 +4,7 @@
 --   int main(void) { x = 1; y = x; assert(y == 1); return 0; }
 --
 -- A statement stores a number or what a variable has, or asserts that a variable has a number.
-use Rattle.std.specs.Prelude.{◌≡◌, ℕ, ℤ, pos, ◌<◌, ◌≤◌, ◌^◌, ◌==◌, int_lt, Bool, true, false, ◌&&◌, if◌then◌else◌, is_none, IsTrue, List, [], ◌∷◌, ◌++◌, All, length, position, sum_by, codes, Option, Some, None, option_and_then, option_map}
+use Rattle.std.specs.Prelude.{◌≡◌, ℕ, ℤ, pos, ◌<◌, ◌≤◌, ◌^◌, ◌==◌, int_lt, Bool, true, false, ◌&&◌, if◌then◌else◌, is_none, IsTrue, List, [], ◌∷◌, All, length, position, sum_by, codes, Option, Some, None, option_and_then, option_map}
 use Rattle.std.specs.Int.{w32, cast_unsigned}
 use Rattle.std.specs.Str.{bytes_eq}
 use Rattle.mm_goto.specs.declared.ident.At.{At}
@@ -87,11 +87,15 @@ return_in at _ = None
 abbrev pub return_of : Stmt → Option At
 return_of s = return_in (out-Stmt s).at (out-StmtNode (out-Stmt s).node)
 
--- statements behind others, and last of all `return 0`
-abbrev pub body_from : List Ident → List Statement → List Stmt → Option Body
-body_from variables done [] = None
-body_from variables done (s ∷ []) = option_map (λ at. record { statements = done; return_at = at }) (return_of s)
-body_from variables done (s ∷ t ∷ ss) = option_and_then (λ x. body_from variables (done ++ x ∷ []) (t ∷ ss)) (statement_of variables s)
+-- a statement stands before the others of the body
+abbrev pub statement_before : Statement → Body → Body
+statement_before s b = record { statements = s ∷ b.statements; return_at = b.return_at }
+
+-- the statements of a body that ends with `return 0`
+abbrev pub body_of : List Ident → List Stmt → Option Body
+body_of variables [] = None
+body_of variables (s ∷ []) = option_map (λ at. record { statements = []; return_at = at }) (return_of s)
+body_of variables (s ∷ t ∷ ss) = option_and_then (λ x. option_map (statement_before x) (body_of variables (t ∷ ss))) (statement_of variables s)
 
 -- ---- items
 
@@ -111,21 +115,27 @@ abbrev pub whole : List Ident → At → Body → Small
 whole variables at b = record { variables = variables; body = b.statements; main_at = at; return_at = b.return_at }
 
 abbrev pub main_in : List Ident → At → Gives → Ident → List Param → List Stmt → Option Small
-main_in variables at gives.Int x [] body = if bytes_eq x (codes "main") then option_map (whole variables at) (body_from variables [] body) else None
+main_in variables at gives.Int x [] body = if bytes_eq x (codes "main") then option_map (whole variables at) (body_of variables body) else None
 main_in variables at _ x _ body = None
 
 abbrev pub main_of : List Ident → Item → Option Small
 main_of variables (item.Function at kind x params body) = main_in variables at kind x params body
 main_of variables _ = None
 
--- variables behind others, and last of all main
-abbrev pub small_from : List Ident → List Item → Option Small
-small_from variables [] = None
-small_from variables (i ∷ []) = main_of variables i
-small_from variables (i ∷ j ∷ is) = option_and_then (λ x. small_from (variables ++ x ∷ []) (j ∷ is)) (variable_of i)
+-- the variables that the items before the last declare
+abbrev pub variables_in : List Item → Option (List Ident)
+variables_in [] = None
+variables_in (i ∷ []) = Some []
+variables_in (i ∷ j ∷ is) = option_and_then (λ x. option_map (λ xs. x ∷ xs) (variables_in (j ∷ is))) (variable_of i)
 
+abbrev pub last_item : List Item → Option Item
+last_item [] = None
+last_item (i ∷ []) = Some i
+last_item (i ∷ j ∷ is) = last_item (j ∷ is)
+
+-- variables, and last of all main, whose body may name each of them
 abbrev pub small_of : Tree → Option Small
-small_of tree = small_from [] tree.items
+small_of tree = option_and_then (λ variables. option_and_then (main_of variables) (last_item tree.items)) (variables_in tree.items)
 
 -- ---- limits
 

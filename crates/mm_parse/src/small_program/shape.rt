@@ -1,4 +1,4 @@
-ghost use Rattle.std.specs.Prelude.{◌≡◌, ◌≢◌, ◌<◌, ◌^◌, IfOk, IfSome, IfNone, All, None, Some, [], List, length, option_map};
+ghost use Rattle.std.specs.Prelude.{◌≡◌, ◌<◌, ◌^◌, IfOk, IfSome, IfNone, All, None, Some, List, length, option_map};
 ghost use Rattle.mm_parse.specs.SmallTree as spec;
 ghost use Rattle.mm_parse.specs.declared.small_program.tree.Small.{Small};
 ghost use Rattle.mm_goto.specs.declared.ident.Ident.{Ident};
@@ -114,9 +114,10 @@ fn return_of(stmt: &Stmt) -> Option<At>
 }
 
 /// The statements before `return 0`, and its place.
+#[tactic(auto, using(crate::proofs::SmallInTurn::body_in_turn))]
 fn body_of(alloc: Global, variables: &[Ident], body: &[Stmt]) -> Result<Option<Body>, NoMemory>
     requires { length variables.now < 2 ^ 32 }
-    ensures body { IfOk result (λ it. it ≡ spec.body_from variables.now [] body.now) }
+    ensures body { IfOk result (λ it. it ≡ spec.body_of variables.now body.now) }
     ensures within { IfOk result (λ it. IfSome it (λ b. All (IsStatementIn (length variables.now)) b.statements)) }
 {
     let mut statements = Vec::new(alloc);
@@ -162,29 +163,31 @@ fn variable_of(item: &Item) -> Option<&Ident>
     }
 }
 
-/// The variables before the last item, and the items behind them: that one, or more where none of them is a variable.
-fn variables_of(alloc: Global, items: &[Item]) -> Result<(Vec<Ident>, &[Item]), NoMemory>
-    ensures same { IfOk result (λ read. spec.small_from [] items.now ≡ spec.small_from read.0.items read.1.now) }
-    ensures stops { IfOk result (λ read. (length read.1.now ≢ 1 → spec.small_from read.0.items read.1.now ≡ None)) }
+/// The variables before the last item, and that item.
+#[tactic(auto, using(crate::proofs::SmallInTurn::variables_in_turn))]
+fn variables_of(alloc: Global, items: &[Item]) -> Result<Option<(Vec<Ident>, &Item)>, NoMemory>
+    ensures variables { IfOk result (λ read. IfSome read (λ it. spec.variables_in items.now ≡ Some it.0.items)) }
+    ensures last { IfOk result (λ read. IfSome read (λ it. spec.last_item items.now ≡ Some it.1.now)) }
+    ensures none { IfOk result (λ read. IfNone read (spec.variables_in items.now ≡ None)) }
 {
     let mut variables = Vec::new(alloc);
     let mut rest = items;
     while let [item, behind @ ..] = rest {
         if behind.is_empty() {
-            return Ok((variables, rest));
+            return Ok(Some((variables, item)));
         }
         let Some(name) = variable_of(item) else {
-            return Ok((variables, rest));
+            return Ok(None);
         };
         variables.push(Ident::copy_of(alloc, name.text())?)?;
         rest = behind;
     }
-    Ok((variables, rest))
+    Ok(None)
 }
 
 /// The place and the body of main, where this is main.
 fn main_of(item: &Item) -> Option<(At, &[Stmt])>
-    ensures some { IfSome result (λ main. (vs : List Ident) → spec.main_of vs item.now ≡ option_map (spec.whole vs main.0) (spec.body_from vs [] main.1.now)) }
+    ensures some { IfSome result (λ main. (vs : List Ident) → spec.main_of vs item.now ≡ option_map (spec.whole vs main.0) (spec.body_of vs main.1.now)) }
     ensures none { IfNone result ((vs : List Ident) → spec.main_of vs item.now ≡ None) }
 {
     match item {
@@ -205,8 +208,7 @@ pub fn small_of(alloc: Global, tree: &Tree) -> Result<Option<Small>, NoMemory>
     ensures within { IfOk result (λ small. IfSome small (λ s. All (IsStatementIn (length s.variables)) s.body)) }
     ensures none { IfOk result (λ small. IfNone small ((s : Small) → spec.small_of tree.now ≡ Some s → IsWithinLimits s → ⊥)) }
 {
-    let (variables, rest) = variables_of(alloc, tree.items.items())?;
-    let [item] = rest else {
+    let Some((variables, item)) = variables_of(alloc, tree.items.items())? else {
         return Ok(None);
     };
     if variables.len() > MAX_VARIABLES {
