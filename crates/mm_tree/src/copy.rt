@@ -53,6 +53,26 @@ fn copy_all<T: Duplicate>(alloc: Global, all: &[T]) -> Result<Vec<T>, NoMemory>
     Ok(copy)
 }
 
+// Copies of parts of any types. That a copy is dropped where a later one fails is proved here once, for all the types.
+fn copy_two<A: Duplicate, B: Duplicate>(alloc: Global, a: &A, b: &B) -> Result<(A, B), NoMemory>
+    ensures { IfOk result (λ copies. (copies.0 ≡ a.now) × (copies.1 ≡ b.now)) }
+{
+    let a = a.duplicate(alloc)?;
+    b.duplicate(alloc).map(|b| (a, b))
+}
+
+fn copy_three<A: Duplicate, B: Duplicate, C: Duplicate>(
+    alloc: Global,
+    a: &A,
+    b: &B,
+    c: &C,
+) -> Result<(A, B, C), NoMemory>
+    ensures { IfOk result (λ copies. (copies.0 ≡ a.now) × ((copies.1 ≡ b.now) × (copies.2 ≡ c.now))) }
+{
+    let (a, b) = copy_two(alloc, a, b)?;
+    c.duplicate(alloc).map(|c| (a, b, c))
+}
+
 impl<T: Duplicate> Duplicate for List<T> {
     fn duplicate(&self, alloc: Global) -> Result<List<T>, NoMemory> {
         Ok(List::new(copy_all(alloc, self.items())?))
@@ -93,11 +113,19 @@ impl Duplicate for Expr {
     }
 }
 
+fn boxed<T: Drop>(alloc: Global, part: T) -> Result<Boxed<T>, NoMemory>
+    ensures { IfOk result (λ boxed. boxed ≡ part) }
+{
+    Ok(Boxed::new(alloc, part)?)
+}
+
 #[cycle(copy_expr)]
 fn copy_operand(alloc: Global, expr: &Boxed<Expr>) -> Result<Boxed<Expr>, NoMemory>
     ensures { IfOk result (λ copy. copy ≡ expr.now) }
 {
-    Ok(Boxed::new(alloc, expr.get().duplicate(alloc)?)?)
+    expr.get()
+        .duplicate(alloc)
+        .and_then(|expr| boxed(alloc, expr))
 }
 
 impl Duplicate for Node {
@@ -107,27 +135,24 @@ impl Duplicate for Node {
             Node::Number(n) => Ok(Node::Number(*n)),
             Node::Null => Ok(Node::Null),
             Node::Name(name) => name.duplicate(alloc).map(Node::Name),
-            Node::Index(name, index) => Ok(Node::Index(
-                name.duplicate(alloc)?,
-                copy_operand(alloc, index)?,
-            )),
+            Node::Index(name, index) => copy_operand(alloc, index).and_then(|index| name
+                .duplicate(alloc)
+                .map(|name| Node::Index(name, index))),
             Node::Deref(pointer) => copy_operand(alloc, pointer).map(Node::Deref),
             Node::AddrName(name) => name.duplicate(alloc).map(Node::AddrName),
-            Node::AddrIndex(name, index) => Ok(Node::AddrIndex(
-                name.duplicate(alloc)?,
-                copy_operand(alloc, index)?,
-            )),
-            Node::Un(op, a) => Ok(Node::Un(*op, copy_operand(alloc, a)?)),
-            Node::Bin(op, a, b) => Ok(Node::Bin(
-                *op,
-                copy_operand(alloc, a)?,
-                copy_operand(alloc, b)?,
-            )),
-            Node::Cond(test, a, b) => Ok(Node::Cond(
-                copy_operand(alloc, test)?,
-                copy_operand(alloc, a)?,
-                copy_operand(alloc, b)?,
-            )),
+            Node::AddrIndex(name, index) => copy_operand(alloc, index).and_then(|index| name
+                .duplicate(alloc)
+                .map(|name| Node::AddrIndex(name, index))),
+            Node::Un(op, a) => copy_operand(alloc, a).map(|a| Node::Un(*op, a)),
+            Node::Bin(op, a, b) => {
+                let a = copy_operand(alloc, a)?;
+                copy_operand(alloc, b).map(|b| Node::Bin(*op, a, b))
+            }
+            Node::Cond(test, a, b) => {
+                let test = copy_operand(alloc, test)?;
+                let a = copy_operand(alloc, a)?;
+                copy_operand(alloc, b).map(|b| Node::Cond(test, a, b))
+            }
         }
     }
 }
@@ -136,10 +161,9 @@ impl Duplicate for LeftNode {
     fn duplicate(&self, alloc: Global) -> Result<LeftNode, NoMemory> {
         match self {
             LeftNode::Name(name) => name.duplicate(alloc).map(LeftNode::Name),
-            LeftNode::Index(name, index) => Ok(LeftNode::Index(
-                name.duplicate(alloc)?,
-                index.duplicate(alloc)?,
-            )),
+            LeftNode::Index(name, index) => {
+                copy_two(alloc, name, index).map(|copies| LeftNode::Index(copies.0, copies.1))
+            }
             LeftNode::Deref(pointer) => pointer.duplicate(alloc).map(LeftNode::Deref),
         }
     }
@@ -158,22 +182,15 @@ impl Duplicate for Value {
     fn duplicate(&self, alloc: Global) -> Result<Value, NoMemory> {
         match self {
             Value::Plain(expr) => expr.duplicate(alloc).map(Value::Plain),
-            Value::Call(at, name, arguments) => Ok(Value::Call(
-                *at,
-                name.duplicate(alloc)?,
-                arguments.duplicate(alloc)?,
-            )),
-            Value::FetchAdd(at, pointer, added) => Ok(Value::FetchAdd(
-                *at,
-                pointer.duplicate(alloc)?,
-                added.duplicate(alloc)?,
-            )),
-            Value::CompareSwap(at, pointer, old, new) => Ok(Value::CompareSwap(
-                *at,
-                pointer.duplicate(alloc)?,
-                old.duplicate(alloc)?,
-                new.duplicate(alloc)?,
-            )),
+            Value::Call(at, name, arguments) => copy_two(alloc, name, arguments).map(
+                |copies| Value::Call(*at, copies.0, copies.1),
+            ),
+            Value::FetchAdd(at, pointer, added) => copy_two(alloc, pointer, added).map(
+                |copies| Value::FetchAdd(*at, copies.0, copies.1),
+            ),
+            Value::CompareSwap(at, pointer, old, new) => copy_three(alloc, pointer, old, new).map(
+                |copies| Value::CompareSwap(*at, copies.0, copies.1, copies.2),
+            ),
         }
     }
 }
@@ -214,26 +231,20 @@ impl Duplicate for StmtNode {
             StmtNode::Do(value) => value.duplicate(alloc).map(StmtNode::Do),
             StmtNode::If(test, then, or_else) => {
                 let then = copy_inner(alloc, then)?;
-                let or_else = copy_optional(alloc, or_else)?;
-                test.duplicate(alloc)
-                    .map(|test| StmtNode::If(test, then, or_else))
+                copy_optional(alloc, or_else).and_then(|or_else| copy_if(
+                    alloc, test, then, or_else,
+                ))
             }
             StmtNode::While(test, body) => {
-                let body = copy_inner(alloc, body)?;
-                test.duplicate(alloc)
-                    .map(|test| StmtNode::While(test, body))
+                copy_inner(alloc, body).and_then(|body| copy_while(alloc, test, body))
             }
             StmtNode::DoWhile(body, test) => {
-                let body = copy_inner(alloc, body)?;
-                test.duplicate(alloc)
-                    .map(|test| StmtNode::DoWhile(body, test))
+                copy_inner(alloc, body).and_then(|body| copy_do(alloc, body, test))
             }
             StmtNode::For(first, test, step, body) => {
                 let first = copy_optional(alloc, first)?;
                 let step = copy_optional(alloc, step)?;
-                let body = copy_inner(alloc, body)?;
-                test.duplicate(alloc)
-                    .map(|test| StmtNode::For(first, test, step, body))
+                copy_inner(alloc, body).and_then(|body| copy_for(alloc, first, test, step, body))
             }
             StmtNode::Break => Ok(StmtNode::Break),
             StmtNode::Continue => Ok(StmtNode::Continue),
@@ -247,10 +258,7 @@ impl Duplicate for StmtNode {
             StmtNode::Join(thread) => thread.duplicate(alloc).map(StmtNode::Join),
             StmtNode::Goto(label) => label.duplicate(alloc).map(StmtNode::Goto),
             StmtNode::Label(label, stmt) => {
-                let stmt = copy_inner(alloc, stmt)?;
-                label
-                    .duplicate(alloc)
-                    .map(|label| StmtNode::Label(label, stmt))
+                copy_inner(alloc, stmt).and_then(|stmt| copy_label(alloc, label, stmt))
             }
             StmtNode::AtomBegin => Ok(StmtNode::AtomBegin),
             StmtNode::AtomEnd => Ok(StmtNode::AtomEnd),
@@ -262,7 +270,9 @@ impl Duplicate for StmtNode {
 fn copy_inner(alloc: Global, stmt: &Boxed<Stmt>) -> Result<Boxed<Stmt>, NoMemory>
     ensures { IfOk result (λ copy. copy ≡ stmt.now) }
 {
-    Ok(Boxed::new(alloc, stmt.get().duplicate(alloc)?)?)
+    stmt.get()
+        .duplicate(alloc)
+        .and_then(|stmt| boxed(alloc, stmt))
 }
 
 #[cycle(copy_stmt)]
@@ -270,7 +280,11 @@ fn copy_optional(alloc: Global, stmt: &Option<Boxed<Stmt>>) -> Result<Option<Box
     ensures { IfOk result (λ copy. copy ≡ stmt.now) }
 {
     match stmt {
-        Some(stmt) => Ok(Some(Boxed::new(alloc, stmt.get().duplicate(alloc)?)?)),
+        Some(stmt) => stmt
+            .get()
+            .duplicate(alloc)
+            .and_then(|stmt| boxed(alloc, stmt))
+            .map(Some),
         None => Ok(None),
     }
 }
@@ -286,28 +300,76 @@ fn copy_stmts(alloc: Global, stmts: &[Stmt]) -> Result<Vec<Stmt>, NoMemory>
     Ok(copy)
 }
 
+// The node of a statement, from copies of the statements inside and from the rest, which is copied.
+fn copy_if(
+    alloc: Global,
+    test: &Expr,
+    then: Boxed<Stmt>,
+    or_else: Option<Boxed<Stmt>>,
+) -> Result<StmtNode, NoMemory>
+    ensures { IfOk result (λ copy. copy ≡ StmtNode.If test.now then or_else) }
+{
+    test.duplicate(alloc)
+        .map(|test| StmtNode::If(test, then, or_else))
+}
+
+fn copy_while(alloc: Global, test: &Expr, body: Boxed<Stmt>) -> Result<StmtNode, NoMemory>
+    ensures { IfOk result (λ copy. copy ≡ StmtNode.While test.now body) }
+{
+    test.duplicate(alloc)
+        .map(|test| StmtNode::While(test, body))
+}
+
+fn copy_do(alloc: Global, body: Boxed<Stmt>, test: &Expr) -> Result<StmtNode, NoMemory>
+    ensures { IfOk result (λ copy. copy ≡ StmtNode.DoWhile body test.now) }
+{
+    test.duplicate(alloc)
+        .map(|test| StmtNode::DoWhile(body, test))
+}
+
+fn copy_for(
+    alloc: Global,
+    first: Option<Boxed<Stmt>>,
+    test: &Option<Expr>,
+    step: Option<Boxed<Stmt>>,
+    body: Boxed<Stmt>,
+) -> Result<StmtNode, NoMemory>
+    ensures { IfOk result (λ copy. copy ≡ StmtNode.For first test.now step body) }
+{
+    test.duplicate(alloc)
+        .map(|test| StmtNode::For(first, test, step, body))
+}
+
+fn copy_label(alloc: Global, label: &Word, stmt: Boxed<Stmt>) -> Result<StmtNode, NoMemory>
+    ensures { IfOk result (λ copy. copy ≡ StmtNode.Label label.now stmt) }
+{
+    label
+        .duplicate(alloc)
+        .map(|label| StmtNode::Label(label, stmt))
+}
+
 fn copy_assign(alloc: Global, left: &Left, value: &Value) -> Result<StmtNode, NoMemory>
     ensures { IfOk result (λ copy. copy ≡ StmtNode.Assign left.now value.now) }
 {
-    Ok(StmtNode::Assign(left.duplicate(alloc)?, value.duplicate(alloc)?))
+    copy_two(alloc, left, value).map(|copies| StmtNode::Assign(copies.0, copies.1))
 }
 
 fn copy_update(alloc: Global, left: &Left, op: Binary, expr: &Expr) -> Result<StmtNode, NoMemory>
     ensures { IfOk result (λ copy. copy ≡ StmtNode.Update left.now op expr.now) }
 {
-    Ok(StmtNode::Update(left.duplicate(alloc)?, op, expr.duplicate(alloc)?))
+    copy_two(alloc, left, expr).map(|copies| StmtNode::Update(copies.0, op, copies.1))
 }
 
 fn copy_assert(alloc: Global, test: &Expr, text: &Option<Ident>) -> Result<StmtNode, NoMemory>
     ensures { IfOk result (λ copy. copy ≡ StmtNode.Assert test.now text.now) }
 {
-    Ok(StmtNode::Assert(test.duplicate(alloc)?, text.duplicate(alloc)?))
+    copy_two(alloc, test, text).map(|copies| StmtNode::Assert(copies.0, copies.1))
 }
 
 fn copy_start(alloc: Global, thread: &Word, function: &Word) -> Result<StmtNode, NoMemory>
     ensures { IfOk result (λ copy. copy ≡ StmtNode.Start thread.now function.now) }
 {
-    Ok(StmtNode::Start(thread.duplicate(alloc)?, function.duplicate(alloc)?))
+    copy_two(alloc, thread, function).map(|copies| StmtNode::Start(copies.0, copies.1))
 }
 
 impl Duplicate for Param {
@@ -337,19 +399,21 @@ impl Duplicate for Item {
             Item::Globals(globals) => globals.duplicate(alloc).map(Item::Globals),
             Item::Mutexes(names) => names.duplicate(alloc).map(Item::Mutexes),
             Item::Threads(names) => names.duplicate(alloc).map(Item::Threads),
-            Item::InputDecl(at, name) => Ok(Item::InputDecl(*at, name.duplicate(alloc)?)),
+            Item::InputDecl(at, name) => {
+                name.duplicate(alloc).map(|name| Item::InputDecl(*at, name))
+            }
             Item::Function {
                 at,
                 gives,
                 name,
                 params,
                 body,
-            } => Ok(Item::Function {
+            } => copy_three(alloc, name, params, body).map(|copies| Item::Function {
                 at: *at,
                 gives: *gives,
-                name: name.duplicate(alloc)?,
-                params: params.duplicate(alloc)?,
-                body: body.duplicate(alloc)?,
+                name: copies.0,
+                params: copies.1,
+                body: copies.2,
             }),
         }
     }
