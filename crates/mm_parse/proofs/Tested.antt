@@ -7,7 +7,7 @@ use Rattle.mm_tree.specs.declared.stmt.StmtNode.TheVariants as node
 use Rattle.mm_reading.specs.Parsing.{Outcome, Parsed, Fault, after, ◌>>=◌, ◌>>◌, pure, fail, peek, skip}
 use Rattle.mm_parse_expr.specs.declared.terminal.Terminal.{Terminal}
 use Rattle.mm_parse_expr.specs.Reading.{Reader, close}
-use Rattle.mm_parse.specs.Begun.{begun, test, header}
+use Rattle.mm_parse.specs.Begun.{begun, in_parentheses, header}
 use Rattle.mm_parse.specs.StatementGrammar.{statement}
 use Rattle.mm_parse.specs.StatementReading.{Inner, expr, open_mark, while_word, first, condition, step, ended, with_expr, else_at, when, while, do_while, for, node_by, stmt_begun, stmt_of, inner, stmt}
 
@@ -25,27 +25,27 @@ module _ {A : Type 0} (n : ℕ) (f : Expr → Reader A) where
   opened (Parsed u rest) = read (expr n rest)
   opened (Fault rest) = refl
 
-  tested : (ts : List Terminal) → (open_mark >> (expr n >>= λ e. close >> f e)) ts ≡ after (test n ts) f
-  unfolding test
+  tested : (ts : List Terminal) → (open_mark >> (expr n >>= λ e. close >> f e)) ts ≡ after (in_parentheses n ts) f
+  unfolding in_parentheses
   tested ts = opened (open_mark ts)
 
-pub when_on : (n : ℕ) (i : Inner) (ts : List Terminal) → when n i ts ≡ after (test n ts) (λ e. i.stmt >>= λ s. peek (else_at i e s))
+pub when_on : (n : ℕ) (i : Inner) (ts : List Terminal) → when n i ts ≡ after (in_parentheses n ts) (λ e. i.stmt >>= λ s. peek (else_at i e s))
 unfolding when
 when_on n i ts = tested n (λ e. i.stmt >>= λ s. peek (else_at i e s)) ts
 
-pub while_on : (n : ℕ) (i : Inner) (ts : List Terminal) → while n i ts ≡ after (test n ts) (λ e. i.stmt >>= λ s. pure (node.While e s))
+pub while_on : (n : ℕ) (i : Inner) (ts : List Terminal) → while n i ts ≡ after (in_parentheses n ts) (λ e. i.stmt >>= λ s. pure (node.While e s))
 unfolding while
 while_on n i ts = tested n (λ e. i.stmt >>= λ s. pure (node.While e s)) ts
 
-pub do_while_on : (n : ℕ) (i : Inner) (ts : List Terminal) → do_while n i ts ≡ after (i.stmt ts) (λ s. while_word >> (test n >>= λ e. ended (node.DoWhile s e)))
+pub do_while_on : (n : ℕ) (i : Inner) (ts : List Terminal) → do_while n i ts ≡ after (i.stmt ts) (λ s. while_word >> (in_parentheses n >>= λ e. ended (node.DoWhile s e)))
 unfolding do_while with_expr
 do_while_on n i ts = by (i.stmt ts)
   where
-    back : (s : Stmt) (o : Outcome Terminal (Unit {0})) → after o (λ _. with_expr n (λ e. node.DoWhile s e)) ≡ after o (λ _. test n >>= λ e. ended (node.DoWhile s e))
+    back : (s : Stmt) (o : Outcome Terminal (Unit {0})) → after o (λ _. with_expr n (λ e. node.DoWhile s e)) ≡ after o (λ _. in_parentheses n >>= λ e. ended (node.DoWhile s e))
     back s (Parsed u rest) = tested n (λ e. ended (node.DoWhile s e)) rest
     back s (Fault rest) = refl
 
-    by : (o : Outcome Terminal Stmt) → after o (λ s. while_word >> with_expr n (λ e. node.DoWhile s e)) ≡ after o (λ s. while_word >> (test n >>= λ e. ended (node.DoWhile s e)))
+    by : (o : Outcome Terminal Stmt) → after o (λ s. while_word >> with_expr n (λ e. node.DoWhile s e)) ≡ after o (λ s. while_word >> (in_parentheses n >>= λ e. ended (node.DoWhile s e)))
     by (Parsed s rest) = back s (while_word rest)
     by (Fault rest) = refl
 

@@ -1,5 +1,5 @@
 -- What is read where the first terminal tells how it goes on, and the parts of a block and of a program one by one.
-use Rattle.std.specs.Prelude.{◌≡◌, ℕ, List, ◌∷◌, Option, Some, None, Result, Ok, Err, Vec}
+use Rattle.std.specs.Prelude.{◌≡◌, ℕ, List, [], ◌∷◌, Option, Some, None, Result, Ok, Err, Vec}
 use Rattle.std.specs.Borrow.{Bor}
 use Rattle.mm_goto.specs.declared.pure.Binary.{Binary}
 use Rattle.mm_goto.specs.declared.pure.Binary.TheVariants as binary
@@ -10,7 +10,7 @@ use Rattle.mm_tree.specs.declared.stmt.StmtNode.{StmtNode}
 use Rattle.mm_tree.specs.declared.stmt.StmtNode.TheVariants as node
 use Rattle.mm_tree.specs.declared.stmt.Value.{Value}
 use Rattle.mm_reading.specs.Gives.{Fails}
-use Rattle.mm_reading.specs.Parsing.{Outcome, Parsed, Fault, ◌>>=◌, ◌>>◌, pure, fail, peek, skip}
+use Rattle.mm_reading.specs.Parsing.{Outcome, Parsed, Fault, head, ◌>>=◌, ◌>>◌, pure, fail, peek, skip}
 use Rattle.mm_reading.specs.declared.refused.Refused.{Refused}
 use Rattle.mm_parse_expr.specs.declared.symbol.Symbol.{Symbol}
 use Rattle.mm_parse_expr.specs.declared.symbol.Symbol.TheVariants.{Update, CloseBrace}
@@ -18,7 +18,7 @@ use Rattle.mm_parse_expr.specs.declared.terminal.Terminal.{Terminal}
 use Rattle.mm_parse_expr.specs.Grammar.{word}
 use Rattle.mm_parse_expr.specs.Reading.{Reader, close}
 use Rattle.mm_parse.specs.StatementGrammar.{statement}
-use Rattle.mm_parse.specs.StatementReading.{Inner, expr, open_mark, set, declaration_by, first, condition, step, given, ended, node_by, either, stmt, body}
+use Rattle.mm_parse.specs.StatementReading.{Inner, expr, open_mark, plain, named_value, set, declaration_by, first, condition, step, given, ended, node_by, either, stmt, body}
 
 -- the items of what was read, and the tokens after it, or the fault
 abbrev pub GivesAll : {T A G : Type 0} → Result (Vec A G × Bor (List T)) Refused → Outcome T (List A) → Type 0
@@ -35,9 +35,14 @@ abbrev pub updated : Symbol → Binary
 updated (Update op) = op
 updated _ = binary.Add
 
+-- a value that begins with a name
+abbrev pub from_name : ℕ → Reader Value
+from_name n [] = plain n []
+from_name n (t ∷ us) = named_value n t (head us) (t ∷ us)
+
 -- "(" expr ")"
-unfoldable pub test : ℕ → Reader Expr
-test n = open_mark >> (expr n >>= λ e. close >> pure e)
+unfoldable pub in_parentheses : ℕ → Reader Expr
+in_parentheses n = open_mark >> (expr n >>= λ e. close >> pure e)
 
 -- a call or an update, and ";"
 abbrev pub effect : Reader Value → Reader StmtNode

@@ -4,6 +4,7 @@ pub mod Faults
 pub mod Flat
 pub mod Meaning
 pub mod Nesting
+pub mod Openings
 pub mod ProgramGrammar
 pub mod ProgramReading
 pub mod SmallProgram

@@ -10,6 +10,8 @@ mod left;
 mod list;
 mod marks;
 mod number;
+mod opening;
+mod simple;
 mod statement;
 mod value;
 

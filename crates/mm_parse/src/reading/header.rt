@@ -13,14 +13,14 @@ use sqlite_items::Boxed;
 use std::alloc::Global;
 
 /// A test in parentheses.
-#[tactic(auto, unfolding(crate::specs::Begun::test, mm_reading::specs::Parsing::pure))]
+#[tactic(auto, unfolding(crate::specs::Begun::in_parentheses, mm_reading::specs::Parsing::pure))]
 pub fn read_test<'a>(
     alloc: Global,
     bound: usize,
     depth: u32,
     ts: &'a [Terminal<'a>],
 ) -> Result<(Expr, &'a [Terminal<'a>]), Refused>
-    ensures { Gives result (begun.test bound ts.now) }
+    ensures { Gives result (begun.in_parentheses bound ts.now) }
 {
     let rest = read_open_mark(ts)?;
     let (test, rest) = read_expr(alloc, bound, depth, rest)?;

@@ -1,5 +1,6 @@
 //! Values: what may be assigned, returned or stand as a statement.
 ghost use Rattle.mm_reading.specs.Gives.{Gives};
+ghost use Rattle.mm_parse.specs.Begun as begun;
 ghost use Rattle.mm_parse.specs.StatementReading as spec;
 
 use super::list::{Part, read_list};
@@ -124,8 +125,31 @@ fn read_plain<'a>(
     Ok((Value::Plain(expr), rest))
 }
 
+/// A value that begins with a name: a call where `(` stands behind it.
+#[tactic(auto, unfolding(mm_reading::specs::Parsing::skip))]
+fn read_named_value<'a>(
+    alloc: Global,
+    bound: usize,
+    depth: u32,
+    ts: &'a [Terminal<'a>],
+) -> Result<(Value, &'a [Terminal<'a>]), Refused>
+    ensures { Gives result (begun.from_name bound ts.now) }
+{
+    match ts {
+        [
+            first,
+            Terminal {
+                symbol: Symbol::Open,
+                ..
+            },
+            rest @ ..,
+        ] => read_call(alloc, bound, depth, first, rest),
+        _ => read_plain(alloc, bound, depth, ts),
+    }
+}
+
 /// A value. It wants memory where `depth` is 0, and `bound` is above the number of tokens.
-#[tactic(auto, unfolding(crate::specs::StatementReading::value, crate::specs::StatementReading::peek_behind, mm_reading::specs::Parsing::peek, mm_reading::specs::Parsing::skip, mm_reading::specs::Parsing::pure, mm_reading::specs::Parsing::fail))]
+#[tactic(auto, unfolding(crate::specs::StatementReading::value, crate::specs::StatementReading::peek_behind, mm_reading::specs::Parsing::peek, mm_reading::specs::Parsing::skip, mm_reading::specs::Parsing::fail))]
 pub fn read_value<'a>(
     alloc: Global,
     bound: usize,
@@ -154,16 +178,12 @@ pub fn read_value<'a>(
             rest @ ..,
         ] => read_compare_swap(alloc, bound, depth, first, rest),
         [
-            first @ Terminal {
+            Terminal {
                 symbol: Symbol::Name,
                 ..
             },
-            Terminal {
-                symbol: Symbol::Open,
-                ..
-            },
-            rest @ ..,
-        ] => read_call(alloc, bound, depth, first, rest),
+            ..
+        ] => read_named_value(alloc, bound, depth, ts),
         _ => read_plain(alloc, bound, depth, ts),
     }
 }
