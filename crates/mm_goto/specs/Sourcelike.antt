@@ -145,7 +145,8 @@ pub record IsSourceInstr (p : Listing) (code : List Instr) (k : ℕ) (i : Instr)
   pub size : (target_nodes i ≤ 410) × All (λ e. target_nodes i + nodes e ≤ 410) (value_exprs i)
   pub levels : All (λ e. levels e ≤ 210) (exprs_of i)
 
--- a cell's start value fits it, and takes the addresses of whole arrays and of cells that are no elements, which hold ints
+-- a cell's start value fits it, is no least int, and takes the addresses of whole arrays and of cells that are no elements, which
+-- hold ints
 pub record IsSourceCell (p : Listing) (cell : Cell) : Type 0 where
   pub typed : IsCellTyped cell
   pub numbers : All (λ z. z ≢ negsuc 2147483647) (numbers cell.init)
