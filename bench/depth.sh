@@ -1,6 +1,7 @@
 #!/usr/bin/env bash
 # Finds how deep a tree may be for its walks to stay within half of a stack of 8 MiB: for statements and expressions of
-# each nesting form, the greatest depth at which comparing, copying and dropping it ends, as LLVM builds the program.
+# each nesting form, the greatest depth at which comparing, copying and dropping it ends, as LLVM builds the program and as
+# Rattle's own compiler does.
 # It works on a copy of the crates, with a small program that builds the tree from its innermost part on.
 set -euo pipefail
 . "$(dirname "$0")/copy.sh"
@@ -109,15 +110,17 @@ fn main(rt: HostRuntime) -> io::Result<()> {
 MAIN
 printf 'do 1\n' > stdin
 echo same > stdout
-rt run > build.log 2>&1 || { tail -20 build.log; exit 1; }
 
 ends() { [ "$( (ulimit -s 4096 && echo "$1 $2" | out/depth) 2>/dev/null)" = same ]; }
-for form in block do else for label unary deref index; do
-    low=1 high=2
-    while ends $form $high && [ $high -lt 4000000 ]; do low=$high high=$((high * 2)); done
-    while [ $((high - low)) -gt $((low / 64 + 1)) ]; do
-        middle=$(((low + high) / 2))
-        if ends $form $middle; then low=$middle; else high=$middle; fi
+for backend in llvm rattle; do
+    rt run --backend $backend > build.log 2>&1 || { tail -20 build.log; exit 1; }
+    for form in block do else for label unary deref index; do
+        low=1 high=2
+        while ends $form $high && [ $high -lt 4000000 ]; do low=$high high=$((high * 2)); done
+        while [ $((high - low)) -gt $((low / 64 + 1)) ]; do
+            middle=$(((low + high) / 2))
+            if ends $form $middle; then low=$middle; else high=$middle; fi
+        done
+        echo "$backend, $form: $low levels in 4 MiB, $((4194304 / low)) bytes a level"
     done
-    echo "$form: $low levels in 4 MiB, $((4194304 / low)) bytes a level"
 done
