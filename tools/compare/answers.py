@@ -1,4 +1,4 @@
-"""The tool's answer to words and an input, written from docs/formats.md, docs/machines.md and docs/profile.md alone."""
+"""The tool's answer to words and an input, as docs/formats.md, docs/machines.md and docs/profile.md have it."""
 import re
 
 from reading import Refused, place_after, read_program

@@ -1,4 +1,4 @@
-"""Tokens, nesting and grammar of the C profile, written from docs/profile.md alone; the grammar is read out of that page."""
+"""Tokens, nesting and grammar of the C profile, as docs/profile.md has them; the grammar is read out of that page."""
 import re
 
 LIMITS = (200, 200, 200)
