@@ -13,15 +13,11 @@ use Rattle.mm_goto.specs.Listing.{Listing}
 use Rattle.mm_goto.specs.Locals.{local_bound_step, rows_step}
 use Rattle.mm_goto.specs.Terms.{constant, the_local, combined}
 use Rattle.mm_goto.specs.Valid.{IsPureIn, IsInstrIn, IsThreadIn, IsCellIn, IsStartedByMain, IsValid, start_step, starts, joins}
-use Rattle.mm_sched.specs.Sections.{is_section, HasNoSection}
+use Rattle.mm_goto.specs.Sourcelike.{is_section}
+use Rattle.mm_sched.specs.Sections.{HasNoSection}
 use Rattle.mm_goto.proofs.Folding.{fold_constant, fold_local, fold_applied, fold_combined}
+use Rattle.mm_goto.proofs.Within.{constant_in, local_in}
 use Rattle.mm_examples.specs.StoreBuffering.{zero_cell, is_zero, not_local, truth, main_code, writes_and_reads, thread_of, store_buffering}
-
-constant_in : (p : Listing) (t : Thread) (z : ℤ) → IsPureIn p t (constant z)
-constant_in p t z = record { locals = rw (fold_constant local_bound_step z) (omega arith); cells = rw (fold_constant rows_step z) (All-from_recursion _ [] tt) }
-
-local_in : (p : Listing) (t : Thread) (l : ℕ) → l < t.locals → IsPureIn p t (the_local l)
-local_in p t l h = record { locals = rw (fold_local local_bound_step l) (omega (arith, h)); cells = rw (fold_local rows_step l) (All-from_recursion _ [] tt) }
 
 not_in : (p : Listing) (t : Thread) (l : ℕ) → l < t.locals → IsPureIn p t (not_local l)
 not_in p t l h = record {

@@ -105,6 +105,7 @@ IsSingle p c = IsSomeAnd (slice_get p.cells c) (λ a. a.index ≡ None)
 abbrev pub exprs_of : Instr → List Pure
 exprs_of i = flat_map target_exprs (targets i) ++ value_exprs i
 
+-- the instruction begins or ends an atomic section
 abbrev pub is_section : Instr → Bool
 is_section AtomBegin = true
 is_section AtomEnd = true

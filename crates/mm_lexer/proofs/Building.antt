@@ -9,7 +9,7 @@ use Rattle.std.specs.Fmt.{decimal}
 use Rattle.std.proofs.lemmas.Fmt.{decimal_digit, decimal_is_IsNumeral, first_decimal, IsAscii-decimal}
 use Rattle.std.proofs.lemmas.Str.Parse.{digit_from_value}
 use Rattle.std.proofs.lemmas.Str.{encodes-IsAscii}
-use Rattle.std.proofs.lemmas.Bool.{lt-ltb}
+use Rattle.std.proofs.lemmas.Bool.{and_parts, lt-ltb}
 use Rattle.std.proofs.lemmas.List.{get_or-append-add}
 use Rattle.std.specs.Str.Parse.{digits_value, AllDigits}
 use Rattle.std.proofs.lemmas.List.Folds.{list_all-append}
@@ -125,15 +125,11 @@ abbrev pub Ends : (ℕ → Bool) → List ℕ → Type 0
 Ends p [] = Unit {0}
 Ends p (c ∷ cs) = p c ≡ false
 
-both : (a b : Bool) → (a && b) ≡ true → (a ≡ true) × (b ≡ true)
-both true b h = (refl, h)
-both false b h = cc
-
 run_len : (p : ℕ → Bool) (front rest : List ℕ) → list_all p front ≡ true → Ends p rest → prefix_len p (front ++ rest) ≡ length front
 run_len p [] [] all e = refl
 run_len p [] (c ∷ cs) all e = rw e refl
 run_len p (c ∷ cs) rest all e =
-    let b = both (p c) (list_all p cs) all in
+    let b = and_parts (p c) (list_all p cs) all in
     let on = run_len p cs rest b.1 e in
     rw b.0 (omega (arith, on))
 
@@ -200,7 +196,7 @@ line_comment_on h word rest ls all e s = gap_on h (47 ∷ 47 ∷ word) rest ls (
 closing_len : (word rest : List ℕ) → list_all (λ c. not (c == 42)) word ≡ true → closing (word ++ 42 ∷ 47 ∷ rest) ≡ Some (length word + 2)
 closing_len [] rest all = refl
 closing_len (c ∷ cs) rest all =
-    let b = both (not (c == 42)) (list_all (λ d. not (d == 42)) cs) all in
+    let b = and_parts (not (c == 42)) (list_all (λ d. not (d == 42)) cs) all in
     by_test (c == 42) b.0 (closing_len cs rest b.1)
   where
     by_test : (t : Bool) → not t ≡ true → closing (cs ++ 42 ∷ 47 ∷ rest) ≡ Some (length cs + 2) → cond (t && (slice_index (cs ++ 42 ∷ 47 ∷ rest) 0 == 47)) (Some 2) (option_map suc (closing (cs ++ 42 ∷ 47 ∷ rest))) ≡ Some (length (c ∷ cs) + 2)
@@ -235,7 +231,7 @@ include_on word rest ls i all e s = gap_on true (35 ∷ word) rest ls (at_hash t
 pub name_on : (h : Bool) (word rest : List ℕ) (ls : List Lexeme) → is_name word ≡ true → Ends is_name_char rest → Spells false rest ls → Spells h (word ++ rest) (record { kind = Name; bytes = encode_utf8_all word } ∷ ls)
 name_on h [] rest ls n e s = cc
 name_on h (c ∷ cs) rest ls n e s =
-    let b = both (is_name_start c) (list_all is_name_char cs) n in
+    let b = and_parts (is_name_start c) (list_all is_name_char cs) n in
     let len = run_len is_name_char cs rest b.1 e in
     token_on h Name (c ∷ cs) rest ls (at_name h c (cs ++ rest) (start_space c b.0) b.0 ∙ ap (Token Name) (omega (arith, len))) s
 

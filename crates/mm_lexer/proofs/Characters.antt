@@ -4,7 +4,7 @@ use Rattle.std.specs.Char.{is_ascii_alphabetic, is_ascii_alphanumeric, is_ascii_
 use Rattle.std.specs.List.{list_all}
 use Rattle.std.specs.Str.{encode_utf8_all}
 use Rattle.std.proofs.lemmas.Str.{encode_ascii}
-use Rattle.std.proofs.lemmas.Bool.{ltb-true}
+use Rattle.std.proofs.lemmas.Bool.{and_parts, ltb-true}
 use Rattle.std.proofs.lemmas.Bool.Decides.{nat_tests}
 use Rattle.unicode_ident.proofs.IdentLemmas.{is_xid_start-ascii, is_xid_continue-ascii}
 use Rattle.mm_lexer.specs.declared.class.Base.{Base}
@@ -63,16 +63,12 @@ radix_small Hexadecimal = omega arith
 
 -- ---- marks
 
-both : (a b : Bool) → (a && b) ≡ true → (a ≡ true) × (b ≡ true)
-both true b h = (refl, h)
-both false b h = cc
-
 passes : (test : ℕ → Bool) (cs : List ℕ) (c : ℕ) → is_one_of cs c ≡ true → list_all test cs ≡ true → test c ≡ true
 passes test [] c h k = cc
-passes test (d ∷ ds) c h k = by_test (λ i. passes test ds c i (both _ _ k).1) (c == d) refl h
+passes test (d ∷ ds) c h k = by_test (λ i. passes test ds c i (and_parts _ _ k).1) (c == d) refl h
   where
     by_test : (is_one_of ds c ≡ true → test c ≡ true) → (b : Bool) → (c == d) ≡ b → (b || is_one_of ds c) ≡ true → test c ≡ true
-    by_test others true e i = let f : c ≡ d = grind (arith, nat_tests) in ap test f ∙ (both _ _ k).0
+    by_test others true e i = let f : c ≡ d = grind (arith, nat_tests) in ap test f ∙ (and_parts _ _ k).0
     by_test others false e i = others i
 
 -- what begins a mark begins nothing else
@@ -148,26 +144,26 @@ char_ascii c h =
 -- a test that implies another, on each character
 pub each : (p q : ℕ → Bool) → ((c : ℕ) → p c ≡ true → q c ≡ true) → (cs : List ℕ) → list_all p cs ≡ true → list_all q cs ≡ true
 each p q f [] h = refl
-each p q f (c ∷ cs) h = let b = both (p c) (list_all p cs) h in rw (f c b.0, each p q f cs b.1) refl
+each p q f (c ∷ cs) h = let b = and_parts (p c) (list_all p cs) h in rw (f c b.0, each p q f cs b.1) refl
 
 pub name_from_ascii : (word : List ℕ) → is_ascii_name word ≡ true → is_name word ≡ true
 name_from_ascii [] h = h
 name_from_ascii (c ∷ cs) h =
-    let b = both (is_ascii_name_start c) (list_all is_ascii_name_char cs) h in
+    let b = and_parts (is_ascii_name_start c) (list_all is_ascii_name_char cs) h in
     rw (start_ascii c b.0, each is_ascii_name_char is_name_char char_ascii cs b.1) refl
 
 -- a word of ASCII is its bytes
 pub encodes_ascii : (word : List ℕ) → list_all is_ascii word ≡ true → encode_utf8_all word ≡ word
 encodes_ascii [] h = refl
 encodes_ascii (c ∷ cs) h =
-    let b = both (is_ascii c) (list_all is_ascii cs) h in
+    let b = and_parts (is_ascii c) (list_all is_ascii cs) h in
     let small : c < 128 = ltb-true c 128 b.0 in
     ap (λ bs. bs ++ encode_utf8_all cs) (encode_ascii c small) ∙ ap (λ bs. c ∷ bs) (encodes_ascii cs b.1)
 
 pub name_is_ascii : (word : List ℕ) → is_ascii_name word ≡ true → list_all is_ascii word ≡ true
 name_is_ascii [] h = refl
 name_is_ascii (c ∷ cs) h =
-    let b = both (is_ascii_name_start c) (list_all is_ascii_name_char cs) h in
+    let b = and_parts (is_ascii_name_start c) (list_all is_ascii_name_char cs) h in
     rw (first c b.0, each is_ascii_name_char is_ascii other cs b.1) refl
   where
     first : (d : ℕ) → is_ascii_name_start d ≡ true → is_ascii d ≡ true

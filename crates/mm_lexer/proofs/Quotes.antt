@@ -1,5 +1,6 @@
 -- A text stands between two quotes.
 use Rattle.std.proofs.Common.{◌≡◌, ℕ, zero, suc, pos, ◌+◌, ◌<◌, Bool, true, false, not, ◌&&◌, ◌==◌, cond, nat_le, refl, List, [], ◌∷◌, ◌++◌, length, take, drop, slice_index, Option, Some, None, subst, ap, ◌∙◌, arith}
+use Rattle.std.proofs.lemmas.Bool.{and_parts}
 use Rattle.std.specs.List.{prefix_len}
 use Rattle.std.proofs.lemmas.Bool.Decides.{nat_tests}
 use Rattle.mm_lexer.specs.declared.class.Class.TheVariants.{Line, Quoted, Name as NameChar}
@@ -59,15 +60,11 @@ two n = omega arith
 is_quote : (c : ℕ) → (c == 34) ≡ true → c ≡ 34
 is_quote c h = grind (arith, nat_tests)
 
-both : (a b : Bool) → (a && b) ≡ true → b ≡ true
-both true b h = h
-both false b h = cc
-
 quoted_quotes : (c : ℕ) (cs : List ℕ) → c ≡ 34 → Quotes (c ∷ cs) (quoted cs)
 unfolding quoted
 quoted_quotes c cs e =
     let n = prefix_len (is_in Quoted) cs in
-    where_so (nat_le n 200 && (slice_index cs n == 34)) (λ h. record { quotes = record { m = n; count = two n; opened = e; closed = is_quote (slice_index cs n) (both (nat_le n 200) _ h) } }) (bad (c ∷ cs))
+    where_so (nat_le n 200 && (slice_index cs n == 34)) (λ h. record { quotes = record { m = n; count = two n; opened = e; closed = is_quote (slice_index cs n) (and_parts (nat_le n 200) _ h).1 } }) (bad (c ∷ cs))
 
 mark_quotes : (ds : List ℕ) (n : ℕ) → Quotes ds (mark_of n)
 mark_quotes ds n = either (n == 0) (bad ds) (record { quotes = tt })

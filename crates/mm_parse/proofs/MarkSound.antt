@@ -11,7 +11,7 @@ use Rattle.mm_parse_expr.specs.declared.symbol.Symbol.TheVariants.{Name, Number,
 use Rattle.mm_parse_expr.specs.declared.terminal.Terminal.{Terminal}
 use Rattle.mm_parse_expr.specs.Grammar.{terminal, word}
 use Rattle.mm_parse_expr.specs.Reading.{Reader, is_close, named, name_word}
-use Rattle.mm_parse_expr.proofs.ExprSound.{holds, as_terminal}
+use Rattle.mm_parse_expr.proofs.ExprSound.{holds, as_terminal, is_a_name}
 use Rattle.mm_parse.specs.StatementGrammar as g
 use Rattle.mm_parse.specs.StatementGrammar.{IsLeft, IsArguments, IsCall, IsValue, IsAssign, IsNull, IsAction, AreNames, IsStar, IsLocal, AreLocals, IsDeclaration, IsStep, IsFirst, IsCondition, IsGiven, IsStmt, IsStmtNode, IsBody, left_at, one, local, statement}
 use Rattle.mm_parse.specs.StatementReading as r
@@ -67,9 +67,9 @@ sound_until {A = A} is s tells N K (Parsed a mid) f h k =
     (λ t u rest e same. k a t.at t.spelling rest (subst (λ (v : Terminal). N a (v ∷ rest)) (as_terminal t s (tells t.symbol (holds (is t.symbol) u e))) (subst (λ (us : List Terminal). N a us) same h)))
 sound_until is s tells N K (Fault rest) f h k = tt
 
-is_a_name : (s : Symbol) (t : Terminal) (w : Word) → named s t ≡ Some w → (s ≡ Name) × (word t.at t.spelling ≡ w)
-is_a_name Name t w e = (refl, cc)
-is_a_name _ t w e = cc
+-- the name stands first
+abbrev pub IsName : List Terminal → Word → List Terminal → Type 0
+IsName ts w rest = ts ≡ terminal Name w.at w.name ∷ rest
 
 -- a name, and then f of it
 pub sound_name : {B : Type 0} (K : List Terminal → B → List Terminal → Type 0) (f : Word → Reader B) → ((p : At) (x : List ℕ) (rest : List Terminal) → SoundAt (K (terminal Name p x ∷ rest)) (f (word p x) rest)) → (ts : List Terminal) → SoundAt (K ts) ((name_word >>= f) ts)

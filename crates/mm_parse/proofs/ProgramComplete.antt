@@ -20,13 +20,14 @@ use Rattle.mm_parse_expr.specs.declared.symbol.Symbol.TheVariants.{Name, Keyword
 use Rattle.mm_parse_expr.specs.declared.terminal.Terminal.{Terminal}
 use Rattle.mm_parse_expr.specs.Grammar.{terminal, word}
 use Rattle.mm_parse_expr.specs.Reading.{Reader, close, close_bracket, name_word}
+use Rattle.mm_parse_expr.proofs.Follow.{Any}
 use Rattle.mm_parse.specs.StatementGrammar as st
 use Rattle.mm_parse.specs.StatementGrammar.{IsStar, IsBody, AreNames}
 use Rattle.mm_parse.specs.ProgramGrammar as g
 use Rattle.mm_parse.specs.ProgramGrammar.{IsConst, AreConsts, IsInit, IsGlobal, AreGlobals, IsMutex, AreMutexes, IsOptional, IsParam, AreParams, IsParams, IsThreadParams, IsGives, AreQuals, IsItem, AreItems, IsProgram, global, param}
 use Rattle.mm_parse.specs.StatementReading.{semicolon, open_mark, int_word, others, list, star}
 use Rattle.mm_parse.specs.ProgramReading as r
-use Rattle.mm_parse.proofs.StatementComplete.{Marked, marked_by, IsList, last, more, NoComma, Anything, list_complete, star_complete, names_complete}
+use Rattle.mm_parse.proofs.StatementComplete.{Marked, marked_by, IsList, last, more, NoComma, list_complete, star_complete, names_complete}
 use Rattle.mm_parse.proofs.NodeComplete.{body_complete}
 use Rattle.mm_parse.proofs.StatementShorter.{star_shorter, names_shorter, body_shorter}
 
@@ -114,7 +115,7 @@ consts_list (g.last_const d) = last d
 consts_list (g.more_consts d m) = more d (consts_list m)
 
 consts_complete : {ts : List Terminal} {es : List Expr} {rest : List Terminal} → AreConsts ts es rest → (n : ℕ) → NoComma (head rest) → length ts < n → list r.const_item n ts ≡ Parsed es rest
-consts_complete m n nc l = list_complete (λ ts e rest. IsConst ts e rest) Anything r.const_item (λ p x. tt) (λ ts e rest d. const_shorter d) (λ ts e rest d n c l. const_complete d) (consts_list m) n tt nc l
+consts_complete m n nc l = list_complete (λ ts e rest. IsConst ts e rest) Any r.const_item (λ p x. tt) (λ ts e rest d. const_shorter d) (λ ts e rest d n c l. const_complete d) (consts_list m) n tt nc l
 
 address_done : (t : Terminal) (w : Word) (rest : List Terminal) → Marked (head rest) → peek (r.address_at t w) rest ≡ peek (λ h. r.address_at t w None) rest
 unfolding peek pure
@@ -254,7 +255,7 @@ params_list (g.last_param d) = last d
 params_list (g.more_params d m) = more d (params_list m)
 
 list_params_complete : {ts : List Terminal} {ps : List Param} {rest : List Terminal} → AreParams ts ps rest → (n : ℕ) → NoComma (head rest) → length ts < n → list r.param_item n ts ≡ Parsed ps rest
-list_params_complete m n nc l = list_complete (λ ts a rest. IsParam ts a rest) Anything r.param_item (λ p x. tt) (λ ts a rest d. param_shorter d) (λ ts a rest d n c l. param_complete d n) (params_list m) n tt nc l
+list_params_complete m n nc l = list_complete (λ ts a rest. IsParam ts a rest) Any r.param_item (λ p x. tt) (λ ts a rest d. param_shorter d) (λ ts a rest d n c l. param_complete d n) (params_list m) n tt nc l
 
 -- parameters begin with "int"
 params_first : (n : ℕ) {ts : List Terminal} {ps : List Param} {mid : List Terminal} → AreParams ts ps mid → r.params n ts ≡ (list r.param_item n >>= λ ps. close >> pure ps) ts

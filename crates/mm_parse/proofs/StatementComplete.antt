@@ -20,12 +20,13 @@ use Rattle.mm_parse_expr.specs.declared.terminal.Terminal.{Terminal}
 use Rattle.mm_parse_expr.specs.Grammar as e
 use Rattle.mm_parse_expr.specs.Grammar.{IsExpr, IsLevel, IsMore, IsUnary, IsPrimary, terminal, word}
 use Rattle.mm_parse_expr.specs.Reading.{Reader, lower, close, close_bracket, name_word, index}
-use Rattle.mm_parse_expr.proofs.Follow.{Stops, Ends}
+use Rattle.mm_parse_expr.proofs.Follow.{Any, Stops, Ends}
 use Rattle.mm_parse_expr.proofs.ExprComplete.{expr_complete, unary_complete, index_done, expr_shorter, unary_shorter}
 use Rattle.mm_parse.specs.StatementGrammar as g
 use Rattle.mm_parse.specs.StatementGrammar.{IsLeft, IsArguments, IsCall, IsValue, IsAssign, IsNull, IsAction, AreNames, IsStar, IsLocal, AreLocals, IsDeclaration, IsStep, IsFirst, IsCondition, IsGiven, IsStmt, IsStmtNode, IsBody, NoElse, left_at, one, local, statement}
 use Rattle.mm_parse.specs.StatementReading as r
 use Rattle.mm_parse.specs.StatementReading.{Inner, ended}
+use Rattle.mm_parse.proofs.MarkSound.{IsName}
 use Rattle.mm_parse.proofs.StatementShorter.{left_shorter, local_shorter, star_shorter}
 
 -- ---- what may stand behind a value
@@ -364,22 +365,16 @@ locals_list : {ts : List Terminal} {ls : List Local} {rest : List Terminal} → 
 locals_list (g.last_local d) = last d
 locals_list (g.more_locals d m) = more d (locals_list m)
 
-abbrev pub NamedFirst : List Terminal → Word → List Terminal → Type 0
-NamedFirst ts w rest = ts ≡ terminal Name w.at w.name ∷ rest
-
-names_list : {ts : List Terminal} {ws : List Word} {rest : List Terminal} → AreNames ts ws rest → IsList NamedFirst ts ws rest
+names_list : {ts : List Terminal} {ws : List Word} {rest : List Terminal} → AreNames ts ws rest → IsList IsName ts ws rest
 names_list g.last_name = last refl
 names_list (g.more_names m) = more refl (names_list m)
 
-abbrev pub Anything : Option Terminal → Type 0
-Anything h = Unit {0}
-
-name_item_complete : (ts : List Terminal) (w : Word) (rest : List Terminal) → NamedFirst ts w rest → (n : ℕ) → Anything (head rest) → length ts < n → r.name_item n ts ≡ Parsed w rest
+name_item_complete : (ts : List Terminal) (w : Word) (rest : List Terminal) → IsName ts w rest → (n : ℕ) → Any (head rest) → length ts < n → r.name_item n ts ≡ Parsed w rest
 unfolding name_word token peek skip pure
 name_item_complete ts w rest e n c l = ap (λ ts. name_word ts) e
 
 pub names_complete : {ts : List Terminal} {ws : List Word} {rest : List Terminal} → AreNames ts ws rest → (n : ℕ) → NoComma (head rest) → length ts < n → r.list r.name_item n ts ≡ Parsed ws rest
-names_complete m n nc l = list_complete NamedFirst Anything r.name_item (λ p x. tt) (λ ts w rest e. omega (arith, ap (λ (ts : List Terminal). length ts) e)) name_item_complete (names_list m) n tt nc l
+names_complete m n nc l = list_complete IsName Any r.name_item (λ p x. tt) (λ ts w rest e. omega (arith, ap (λ (ts : List Terminal). length ts) e)) name_item_complete (names_list m) n tt nc l
 
 pub ints_complete : {ts : List Terminal} {ls : List Local} {rest : List Terminal} {p : At} {x : List ℕ} → AreLocals ts ls (terminal Semicolon p x ∷ rest) → (n : ℕ) → length ts < n → r.ints n ts ≡ Parsed (node.Declare ls) rest
 unfolding r.ints r.semicolon token peek skip pure

@@ -1,5 +1,5 @@
 -- What the readers of statements give is in the grammar.
-use Rattle.std.proofs.Common.{◌≡◌, ℕ, zero, suc, Bool, List, [], ◌∷◌, Option, Some, None, refl, sym, subst}
+use Rattle.std.proofs.Common.{ℕ, zero, suc, Bool, List, [], ◌∷◌, Option, Some, None, refl, sym, subst}
 use Rattle.mm_goto.specs.declared.ident.At.{At}
 use Rattle.mm_goto.specs.declared.pure.Binary.TheVariants as binary
 use Rattle.mm_tree.specs.declared.expr.Expr.{Expr}
@@ -26,7 +26,7 @@ use Rattle.mm_parse.specs.StatementGrammar as g
 use Rattle.mm_parse.specs.StatementGrammar.{IsLeft, IsArguments, IsCall, IsValue, IsAssign, IsNull, IsAction, AreNames, IsStar, IsLocal, AreLocals, IsDeclaration, IsStep, IsFirst, IsCondition, IsGiven, IsStmt, IsStmtNode, IsBody, left_at, one, local, statement}
 use Rattle.mm_parse.specs.StatementReading as r
 use Rattle.mm_parse.specs.StatementReading.{mark, is_semicolon, is_comma, is_open, is_ampersand, is_while, is_int, is_zero, is_null, Inner}
-use Rattle.mm_parse.proofs.MarkSound.{tells_close, tells_semicolon, tells_comma, tells_open, tells_ampersand, tells_while, tells_int, sound_mark, sound_until, sound_name, sound_until_name, null_sound, list_sound}
+use Rattle.mm_parse.proofs.MarkSound.{IsName, tells_close, tells_semicolon, tells_comma, tells_open, tells_ampersand, tells_while, tells_int, sound_mark, sound_until, sound_name, sound_until_name, null_sound, list_sound}
 
 -- ---- left sides
 
@@ -185,10 +185,6 @@ local_sound n ts = sound_until_name (λ b rest. IsStar ts b rest) (λ l rest. Is
 
 locals_sound : (n : ℕ) (ts : List Terminal) → SoundAt (λ ls rest. AreLocals ts ls rest) (r.list r.local_item n ts)
 locals_sound n ts = list_sound (λ ts l rest. IsLocal ts l rest) (λ ts ls rest. AreLocals ts ls rest) (λ ts l rest d. g.last_local d) (λ ts l p x us ls rest d m. g.more_locals d m) r.local_item local_sound n ts
-
--- the name stands first
-abbrev pub IsName : List Terminal → Word → List Terminal → Type 0
-IsName ts w rest = ts ≡ terminal Name w.at w.name ∷ rest
 
 name_item_sound : (n : ℕ) (ts : List Terminal) → SoundAt (λ w rest. IsName ts w rest) (r.name_item n ts)
 unfolding name_word token peek skip fail pure

@@ -12,9 +12,9 @@ use Rattle.mm_goto.specs.declared.program.Instr.TheVariants.{Jump, End}
 use Rattle.mm_goto.specs.declared.program.Thread.{Thread}
 use Rattle.mm_goto.specs.Listing.{Listing}
 use Rattle.mm_goto.specs.Locals.{local_bound, local_bound_step, rows_of, rows_step}
-use Rattle.mm_goto.specs.Terms.{constant, the_local}
 use Rattle.mm_goto.specs.Valid.{IsPureIn, IsInstrIn, IsThreadIn, IsCellIn, IsValid, IsLast, start_step}
 use Rattle.mm_goto.proofs.Folding.{fold_constant, fold_local, fold_combined}
+use Rattle.mm_goto.proofs.Within.{constant_in, local_in}
 use Rattle.mm_parse.specs.declared.small_program.tree.Statement.{Statement}
 use Rattle.mm_parse.specs.declared.small_program.tree.Statement.TheVariants as statement
 use Rattle.mm_parse.specs.declared.small_program.tree.Small.{Small}
@@ -22,12 +22,6 @@ use Rattle.mm_parse.specs.SmallTree.{IsStatementIn, IsWithinLimits, sites}
 use Rattle.mm_parse.specs.Flat.{reads, asserts, equals, statement_code, statement_places, body_code, body_places, main_of, cell, listing_of}
 
 -- ---- expressions
-
-constant_in : (p : Listing) (t : Thread) (z : ℤ) → IsPureIn p t (constant z)
-constant_in p t z = record { locals = rw (fold_constant local_bound_step z) (omega arith); cells = rw (fold_constant rows_step z) (All-from_recursion _ [] tt) }
-
-local_in : (p : Listing) (t : Thread) (l : ℕ) → l < t.locals → IsPureIn p t (the_local l)
-local_in p t l h = record { locals = rw (fold_local local_bound_step l) (omega (arith, h)); cells = rw (fold_local rows_step l) (All-from_recursion _ [] tt) }
 
 bound_of_equals : (l : ℕ) (z : ℤ) → local_bound (equals l z) ≡ l + 1
 bound_of_equals l z = rw (fold_combined local_bound_step, fold_local local_bound_step, fold_constant local_bound_step) (grind arith)

@@ -45,6 +45,11 @@ holds false u e = cc
 pub as_terminal : (t : Terminal) (s : Symbol) → t.symbol ≡ s → t ≡ terminal s t.at t.spelling
 as_terminal t s e = ap (λ s. terminal s t.at t.spelling) e
 
+-- what is taken as a name is one
+pub is_a_name : (s : Symbol) (t : Terminal) (w : Word) → named s t ≡ Some w → (s ≡ Name) × (word t.at t.spelling ≡ w)
+is_a_name Name t w e = (refl, cc)
+is_a_name _ t w e = cc
+
 pub sound_close : {B : Type 0} (K : B → List Terminal → Type 0) (f : Reader B) (ts : List Terminal) → ((p : At) (x : List ℕ) (rest : List Terminal) → ts ≡ terminal Close p x ∷ rest → SoundAt K (f rest)) → SoundAt K ((close >> f) ts)
 unfolding close
 sound_close K f ts k = sound_token K (λ t. when (is_close t.symbol)) (λ _. f) ts
@@ -123,13 +128,9 @@ module _ (r : Lower) (S : Sound r) where
   unfolding address name_word pure
   address_sound p x ts = sound_token (λ e rest. IsUnary (terminal (Operator bin.And) p x ∷ ts) e rest) (λ t. named t.symbol t) (λ w. index r >>= λ i. pure (address_tree p w i)) ts behind
     where
-      at_name : (s : Symbol) (t : Terminal) (w : Word) → named s t ≡ Some w → (s ≡ Name) × (word t.at t.spelling ≡ w)
-      at_name Name t w e = (refl, cc)
-      at_name _ t w e = cc
-
       behind : (t : Terminal) (w : Word) (rest : List Terminal) → named t.symbol t ≡ Some w → ts ≡ t ∷ rest → SoundAt (λ e end. IsUnary (terminal (Operator bin.And) p x ∷ ts) e end) ((index r >>= λ i. pure (address_tree p w i)) rest)
       behind t w rest e same =
-          let found = at_name t.symbol t w e in
+          let found = is_a_name t.symbol t w e in
           let is : ts ≡ terminal Name t.at t.spelling ∷ rest = subst (λ (v : Terminal). ts ≡ v ∷ rest) (as_terminal t Name found.0) same in
           subst (λ (us : List Terminal). SoundAt (λ e end. IsUnary (terminal (Operator bin.And) p x ∷ us) e end) ((index r >>= λ i. pure (address_tree p w i)) rest)) (sym is)
           (subst (λ (v : Word). SoundAt (λ e end. IsUnary (terminal (Operator bin.And) p x ∷ terminal Name t.at t.spelling ∷ rest) e end) ((index r >>= λ i. pure (address_tree p v i)) rest)) found.1

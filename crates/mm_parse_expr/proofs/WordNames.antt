@@ -1,5 +1,6 @@
 -- Which words are names.
 use Rattle.std.proofs.Common.{◌≡◌, ◌≢◌, ℕ, Bool, true, false, ◌&&◌, ◌||◌, List, [], ◌∷◌, ◌++◌, if◌then◌else◌, map, refl, sym, ◌∙◌, ap, subst}
+use Rattle.std.proofs.lemmas.Bool.{and_parts}
 use Rattle.std.specs.List.{list_any}
 use Rattle.std.specs.Str.{bytes_eq}
 use Rattle.mm_goto.specs.Names.{profile_words, outside_words, is_word}
@@ -44,10 +45,6 @@ other (e ∷ es) w h =
     let k = any_false (bytes_eq e.0 w) (is_in (words_of es) w) h in
     ap (λ b. if b then e.1 else lookup es w Name) k.0 ∙ other es w k.1
 
-both_true : (a b : Bool) → (a && b) ≡ true → (a ≡ true) × (b ≡ true)
-both_true true b h = (refl, h)
-both_true false b h = cc
-
 other_is_no_name : (s : Symbol) → is_other s ≡ true → s ≢ Name
 other_is_no_name s h same = never (sym (ap is_other same) ∙ h)
   where
@@ -60,7 +57,7 @@ no_end e = cc
 among : (es : List (List ℕ × Symbol)) (w : List ℕ) → none_is_name es ≡ true → is_in (words_of es) w ≡ true → lookup es w Name ≢ Name
 among [] w none h = absurd (no_end h)
 among (e ∷ es) w none h =
-    let both = both_true (is_other e.1) (none_is_name es) none in
+    let both = and_parts (is_other e.1) (none_is_name es) none in
     by (bytes_eq e.0 w) refl both.0 (among es w both.1)
   where
     by : (b : Bool) → bytes_eq e.0 w ≡ b → is_other e.1 ≡ true → (is_in (words_of es) w ≡ true → lookup es w Name ≢ Name) → lookup (e ∷ es) w Name ≢ Name

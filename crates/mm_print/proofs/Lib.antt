@@ -2,7 +2,7 @@ mod Bodies
 mod Items
 pub mod Lines
 mod Lookup
-mod Mains
+pub mod Mains
 mod Operands
 mod Says
 mod Signs

@@ -1,5 +1,6 @@
 -- How a printed text is cut into its tokens, from the right.
 use Rattle.std.proofs.Common.{◌≡◌, ℕ, zero, suc, ◌+◌, ◌≤◌, ◌<◌, ◌^◌, ◌/◌, ◌%◌, ◌==◌, ◌&&◌, cond, nat_lt, Bool, true, false, List, [], ◌∷◌, ◌++◌, map, length, refl, sym, ◌∙◌, ap, subst, arith, append-nil}
+use Rattle.std.proofs.lemmas.Bool.{and_parts}
 use Rattle.std.specs.Prelude.{slice_index}
 use Rattle.std.specs.Fmt.{decimal, digits, digits_onto, digit_glyph}
 use Rattle.std.specs.List.{list_all}
@@ -30,17 +31,13 @@ ascii_first c bs h = chars-append (c ∷ []) bs (IsUtf8-from_ascii (c ∷ []) (o
 pub ascii_utf8 : (c : ℕ) (bs : List ℕ) → nat_lt c 128 ≡ true → IsUtf8 bs → IsUtf8 (c ∷ bs)
 ascii_utf8 c bs h u = IsUtf8-append (c ∷ []) bs (IsUtf8-from_ascii (c ∷ []) (one_ascii c h)) u
 
-both : (a b : Bool) → (a && b) ≡ true → (a ≡ true) × (b ≡ true)
-both true b h = (refl, h)
-both false b h = cc
-
 pub ascii_word : (w bs : List ℕ) → list_all is_ascii w ≡ true → chars (w ++ bs) ≡ w ++ chars bs
 ascii_word [] bs h = refl
-ascii_word (c ∷ w) bs h = let b = both (is_ascii c) (list_all is_ascii w) h in ascii_first c (w ++ bs) b.0 ∙ ap (λ cs. c ∷ cs) (ascii_word w bs b.1)
+ascii_word (c ∷ w) bs h = let b = and_parts (is_ascii c) (list_all is_ascii w) h in ascii_first c (w ++ bs) b.0 ∙ ap (λ cs. c ∷ cs) (ascii_word w bs b.1)
 
 pub ascii_word_utf8 : (w bs : List ℕ) → list_all is_ascii w ≡ true → IsUtf8 bs → IsUtf8 (w ++ bs)
 ascii_word_utf8 [] bs h u = u
-ascii_word_utf8 (c ∷ w) bs h u = let b = both (is_ascii c) (list_all is_ascii w) h in ascii_utf8 c (w ++ bs) b.0 (ascii_word_utf8 w bs b.1 u)
+ascii_word_utf8 (c ∷ w) bs h u = let b = and_parts (is_ascii c) (list_all is_ascii w) h in ascii_utf8 c (w ++ bs) b.0 (ascii_word_utf8 w bs b.1 u)
 
 -- ---- printed numbers
 
@@ -77,7 +74,7 @@ Stops (c ∷ bs) = is_ascii_stop c ≡ true
 
 stops : (bs : List ℕ) → Stops bs → Ends is_name_char (chars bs)
 stops [] h = subst (Ends is_name_char) (sym chars-nil) tt
-stops (c ∷ bs) h = subst (Ends is_name_char) (sym (ascii_first c bs (both (is_ascii c) _ h).0)) (stops_name c h)
+stops (c ∷ bs) h = subst (Ends is_name_char) (sym (ascii_first c bs (and_parts (is_ascii c) _ h).0)) (stops_name c h)
 
 pub nothing_says : Says [] []
 nothing_says = record { utf8 = IsUtf8-nil; spells = subst (λ cs. Spells false cs []) (sym chars-nil) Spells.none; signs = tt }

@@ -1,5 +1,5 @@
 -- A text has one goto program or is refused, and not both.
-use Rattle.std.proofs.Common.{◌≡◌, ◌≢◌, ℕ, List, map, Option, Some, None, refl, sym, ◌∙◌, ap, subst}
+use Rattle.std.proofs.Common.{◌≡◌, ◌≢◌, ℕ, List, map, Option, Some, None, sym, ◌∙◌, subst}
 use Rattle.mm_goto.specs.declared.ident.At.{At}
 use Rattle.mm_goto.specs.Listing.{Listing}
 use Rattle.mm_lexer.specs.declared.token.Token.{Token}
@@ -12,11 +12,9 @@ use Rattle.mm_tree.specs.declared.side.Side.TheVariants.{Source}
 use Rattle.mm_flat.specs.Flattening.{IsFlat}
 use Rattle.mm_flat.proofs.Programs.{one_listing}
 use Rattle.mm_parse_expr.specs.declared.fault.ParseFault.{ParseFault}
-use Rattle.mm_parse_expr.specs.declared.terminal.Terminal.{Terminal}
 use Rattle.mm_parse_expr.specs.Terminals.{terminal_of}
 use Rattle.mm_parse.specs.Faults.{IsFault, Parses}
 use Rattle.mm_parse.specs.Meaning.{IsTreeOf}
-use Rattle.mm_parse.specs.Nesting.{deep_at}
 use Rattle.mm_parse.specs.ProgramGrammar.{IsProgram}
 use Rattle.mm_parse.specs.SmallProgram.{IsSmallProgram}
 use Rattle.mm_parse.proofs.ProgramComplete.{one_program as one_grammar_tree}

@@ -13,7 +13,8 @@ use Rattle.mm_parse.specs.Flat.{body_code, main_of}
 use Rattle.mm_parse.specs.SmallProgram.{IsSmallProgram}
 use Rattle.mm_tree.specs.declared.item.Tree.{Tree}
 use Rattle.mm_run.proofs.Alike.{is_listing}
-use Rattle.mm_sched.specs.Sections.{HasNoSection, is_section}
+use Rattle.mm_goto.specs.Sourcelike.{is_section}
+use Rattle.mm_sched.specs.Sections.{HasNoSection}
 
 abbrev IsOutside : Instr → Type 0
 IsOutside i = is_section i ≡ false

@@ -8,7 +8,7 @@ use Rattle.std.proofs.Math.Seq.{take-append-add}
 use Rattle.std.proofs.lemmas.List.{length-set, get_or-set_same, length-replicate}
 use Rattle.mm_goto.specs.declared.program.Thread.{Thread}
 use Rattle.mm_goto.specs.declared.program.Instr.{Instr}
-use Rattle.mm_goto.specs.declared.program.Instr.TheVariants.{Load, Jump, End}
+use Rattle.mm_goto.specs.declared.program.Instr.TheVariants.{Jump, End}
 use Rattle.mm_goto.specs.Terms.{constant, the_local}
 use Rattle.mm_goto.specs.Value.{value_of, value_step, is_zero, truth}
 use Rattle.mm_goto.proofs.Folding.{fold_constant, fold_local, fold_combined}
@@ -16,6 +16,7 @@ use Rattle.mm_parse.specs.declared.small_program.tree.Statement.{Statement}
 use Rattle.mm_parse.specs.declared.small_program.tree.Statement.TheVariants as statement
 use Rattle.mm_parse.specs.declared.small_program.tree.Small.{Small}
 use Rattle.mm_parse.specs.Flat.{reads, asserts, equals, statement_code as source_code, body_code, main_of, cell, listing_of}
+use Rattle.mm_print.proofs.Mains.{statements_size}
 use Rattle.mm_print.specs.Woven.{fresh, size, place_of, end_of, statement as statement_code, statements, declaration, woven_main, woven}
 use Rattle.mm_sched.specs.declared.entry.Rules.TheVariants.{Sc}
 use Rattle.mm_sched.specs.State.{initial}
@@ -125,16 +126,6 @@ statements_append main t (i ∷ is) js =
     let e : (t + fresh i) + sum_by fresh is ≡ t + sum_by fresh (i ∷ is) = omega (arith, sum_by-cons fresh i is) in
     ap (λ (xs : List Instr). statement_code main t i ++ xs) (statements_append main (t + fresh i) is js) ∙ sym (append_assoc (statement_code main t i) (statements main (t + fresh i) is) (statements main ((t + fresh i) + sum_by fresh is) js)) ∙ ap (λ (k : ℕ). (statement_code main t i ++ statements main (t + fresh i) is) ++ statements main k js) e
 
-size_statement : (main : Thread) (t : ℕ) (i : Instr) → length (statement_code main t i) ≡ size i
-size_statement main t (Load l target) = refl
-size_statement main t (Jump k) = refl
-size_statement main t End = refl
-size_statement main t i = refl
-
-size_statements : (main : Thread) (t : ℕ) (is : List Instr) → length (statements main t is) ≡ sum_by size is
-size_statements main t [] = refl
-size_statements main t (i ∷ is) = rw length-append (omega (arith, size_statement main t i, size_statements main (t + fresh i) is, sum_by-cons size i is))
-
 fresh_statement : (l n : ℕ) (s : Statement) → sum_by fresh (source_code l n s) ≡ reads s
 fresh_statement l n (statement.Number at c z) = refl
 fresh_statement l n (statement.Variable at c f d) = refl
@@ -177,7 +168,7 @@ module _ (p : Small) where
 
   front_length : length front ≡ main.locals + sum_by size body
   unfolding front
-  front_length = rw length-append (omega (arith, length-map-range_with_len declaration 0 main.locals, size_statements main main.locals body))
+  front_length = rw length-append (omega (arith, length-map-range_with_len declaration 0 main.locals, statements_size main main.locals body))
 
   first_jump : place_of main (length body + 1) ≡ length front + 1
   unfolding ending

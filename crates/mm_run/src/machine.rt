@@ -69,8 +69,8 @@ impl Machine for Buf<'_> {
     }
 }
 
-#[tactic(auto, using(crate::proofs::Replaying::none_taken, crate::proofs::Replaying::entry_taken, crate::proofs::Replaying::all_taken))]
 /// Takes the line's entries. On an `Err`, so many were taken before one that is not enabled.
+#[tactic(auto, using(crate::proofs::Replaying::none_taken, crate::proofs::Replaying::entry_taken, crate::proofs::Replaying::all_taken))]
 fn take_line<M: Machine>(machine: &mut M, line: Line) -> Result<(), u32>
     ensures rules { M.rules machine.new ≡ M.rules machine.old }
     ensures program { M.program machine.new ≡ M.program machine.old }

@@ -32,8 +32,8 @@ fn respond<I: Source>(
     }
 }
 
-#[tactic(auto, using(crate::proofs::Answered::ends))]
 /// Runs the command of the words: reads the input to its end, and writes the output.
+#[tactic(auto, using(crate::proofs::Answered::ends))]
 pub fn run<I: Source, O: Sink>(
     alloc: Global,
     words: &[String],

@@ -14,7 +14,8 @@ use Rattle.mm_sched.specs.ScheduleText.{newline, whole, entries_in, step_text, s
 use Rattle.mm_sched.specs.Spelling.{is_same_step, in_front, runs, last_part, run_lines, spelled_lines, text_of, line_text, spell}
 use Rattle.mm_sched.specs.ScheduleText.{times}
 use Rattle.mm_sched.specs.Writing.{lines_text}
-use Rattle.mm_sched.proofs.Spelled.{same_is, some_above}
+use Rattle.mm_sched.proofs.Numerals.{one_above}
+use Rattle.mm_sched.proofs.Spelled.{same_is}
 
 -- ---- the entries stay
 
@@ -29,7 +30,7 @@ entries_full e (suc q) f =
 
 entries_last : (e : Entry) (n : ℕ) → entries_in (last_part e n) ≡ replicate n e
 entries_last e zero = refl
-entries_last e (suc n) = rw (some_above n) (append-nil (replicate (suc n) e))
+entries_last e (suc n) = rw (one_above n) (append-nil (replicate (suc n) e))
 
 entries_run : (r : Line) → entries_in (run_lines r) ≡ replicate r.count r.item
 entries_run r =
@@ -95,7 +96,7 @@ are_runs (e ∷ es) fits = runs_in_front e (runs es) (All-head IsEntry e es fits
 
 fit_last : (t n : ℕ) → t < 2 ^ 32 → n < 2 ^ 32 → All IsFit (last_part (Step t) n)
 fit_last t zero fits small = All-nil IsFit
-fit_last t (suc n) fits small = rw (some_above n) (All-cons IsFit (times (Step t) (suc n)) [] ((fits, omega arith), small) (All-nil IsFit))
+fit_last t (suc n) fits small = rw (one_above n) (All-cons IsFit (times (Step t) (suc n)) [] ((fits, omega arith), small) (All-nil IsFit))
 
 fit_one : (e : Entry) (n : ℕ) → IsRun (times e n) → n ≡ 1 → All IsFit (run_lines (times e n))
 fit_one e n is one = rw one (All-cons IsFit (times e 1) [] (rw one at is, omega arith) (All-nil IsFit))

@@ -14,6 +14,7 @@ use Rattle.mm_sched.specs.Spelling.{is_same_step, in_front, runs, last_part, run
 use Rattle.mm_sched.specs.ScheduleText.{times}
 use Rattle.mm_sched.specs.Writing.{lines_text}
 use Rattle.mm_sched.specs.Writing.{held, held_line, filled, grown, written_some, held_some, written, held_behind}
+use Rattle.mm_sched.proofs.Numerals.{one_above}
 
 -- one more line of many
 pub lines_more : (n : ℕ) (l : Line) → lines_text (replicate n l) ++ lines_text (l ∷ []) ≡ lines_text (replicate (n + 1) l)
@@ -187,12 +188,9 @@ spelled_some h (Step t) n es small = at (t == h.thread) (eqb_tells t h.thread) (
     at false tells other =
         spelled_other h (Step t) n es small (other refl) ∙ ap (λ x. held_line h ++ x) (spelled_grown (held t 0) (suc n) es) ∙ sym (append_assoc (held_line h) (filled (held t 0) (suc n)) (spelled_with (grown (held t 0) (suc n)) es))
 
-pub some_above : (n : ℕ) → (suc n == 0) ≡ false
-some_above n = grind (arith, nat_tests)
-
 spelled_count : (h : Held) (e : Entry) (n : ℕ) (es : List Entry) → h.steps < FULL → spelled_with h (replicate n e ++ es) ≡ written h (times e n) ++ spelled_with (held_behind h (times e n)) es
 spelled_count h e zero es small = refl
-spelled_count h e (suc n) es small = rw (some_above n) (spelled_some h e n es small)
+spelled_count h e (suc n) es small = rw (one_above n) (spelled_some h e n es small)
 
 -- a line, and the entries behind it
 pub spelled_line : (h : Held) (l : Line) (ls : List Line) → h.steps < FULL → spelled_with h (entries_in (l ∷ ls)) ≡ written h l ++ spelled_with (held_behind h l) (entries_in ls)

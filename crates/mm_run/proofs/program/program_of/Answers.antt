@@ -1,8 +1,6 @@
-use Rattle.std.proofs.Common.{◌≡◌, ap, subst, sym, codes, Err}
+use Rattle.std.proofs.Common.{ap, subst, codes, Err}
 use Rattle.mm_goto.specs.declared.ident.At.{At}
-use Rattle.mm_lexer.specs.Tokens.{AreTokens}
 use Rattle.mm_tree.specs.declared.side.Side.TheVariants.{Source}
-use Rattle.mm_parse.specs.Faults.{Parses}
 use Rattle.mm_run.specs.Program.{IsRefused}
 use Rattle.mm_run.specs.Refusal.{Says}
 use Rattle.mm_run.proofs.Refused.{refuses, tree_of}
