@@ -9,6 +9,7 @@ mod model;
 mod program;
 mod pure;
 mod shape;
+pub mod text;
 mod value;
 
 pub use bound::Bound;

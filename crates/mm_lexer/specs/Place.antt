@@ -2,6 +2,8 @@
 -- so where its line begins outside a comment: a line that begins in one has the comment's end in it.
 use Rattle.std.specs.Prelude.{ℕ, ◌+◌, ◌≤◌, true, ◌&&◌, ◌==◌, if◌then◌else◌, List, [], ◌∷◌}
 use Rattle.std.specs.Char.{len_utf8}
+use Rattle.std.specs.Str.{chars}
+use Rattle.mm_goto.specs.declared.ident.At.{At}
 use Rattle.mm_lexer.specs.declared.place.Place.{Place}
 use Rattle.mm_lexer.specs.Class.{is_blank}
 
@@ -19,6 +21,10 @@ past p c = if c == 10
 abbrev pub past_all : Place → List ℕ → Place
 past_all p [] = p
 past_all p (c ∷ cs) = past_all (past p c) cs
+
+-- one behind the last character of a text
+abbrev pub end_of : List ℕ → At
+end_of text = (past_all start (chars text)).at
 
 -- n bytes more are within the bound of a text
 pub record HasRoom (p : Place) (n : ℕ) : Type 0 where

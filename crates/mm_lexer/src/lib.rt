@@ -11,4 +11,5 @@ mod token;
 
 pub use front::is_name;
 pub use lexing::lex;
+pub use place::end_of;
 pub use token::{LexFault, Token, TokenKind};

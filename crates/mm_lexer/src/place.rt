@@ -1,7 +1,7 @@
 ghost use Rattle.std.specs.Prelude.{◌≡◌, ◌+◌, ◌≤◌, length, take, drop};
 ghost use Rattle.std.specs.Char.{len_utf8};
 ghost use Rattle.std.specs.Str.{chars};
-ghost use Rattle.mm_lexer.specs.Place.{start, past, past_all, HasRoom};
+ghost use Rattle.mm_lexer.specs.Place.{start, past, past_all, end_of, HasRoom};
 
 use crate::class::is_blank;
 use crate::front::split;
@@ -77,4 +77,13 @@ pub fn after(place: Place, text: &str, count: usize) -> (Place, &str)
         left -= 1;
     }
     (place, rest)
+}
+
+/// One behind the last character of a text.
+pub fn end_of(text: &str) -> At
+    requires { length text.now ≤ 16777216 }
+    ensures { result ≡ end_of text.now }
+{
+    let (end, _) = after(start(), text, text.len());
+    end.at
 }

@@ -1,4 +1,3 @@
-pub mod Ends
 pub mod ExprComplete
 pub mod ExprOnward
 pub mod ExprReading

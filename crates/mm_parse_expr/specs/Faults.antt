@@ -1,9 +1,7 @@
 -- Where the terminals are no expression.
-use Rattle.std.specs.Prelude.{◌≡◌, ◌≢◌, ℕ, ◌-◌, Bool, IsTrue, ◌+◌, ◌==◌, if◌then◌else◌, List, [], ◌∷◌, length, drop, map}
-use Rattle.std.specs.Str.{chars}
-use Rattle.mm_goto.specs.declared.ident.At.{At}
+use Rattle.std.specs.Prelude.{◌≡◌, ◌≢◌, ℕ, ◌-◌, Bool, IsTrue, ◌+◌, List, [], ◌∷◌, length, drop, map}
 use Rattle.mm_lexer.specs.declared.token.Token.{Token}
-use Rattle.mm_lexer.specs.Place.{start, past_all}
+use Rattle.mm_lexer.specs.Place.{end_of}
 use Rattle.mm_tree.specs.declared.expr.Expr.{Expr}
 use Rattle.mm_reading.specs.declared.refused.Refused.{Refused}
 use Rattle.mm_reading.specs.declared.refused.Refused.TheVariants as refused
@@ -14,14 +12,6 @@ use Rattle.mm_parse_expr.specs.declared.terminal.Terminal.{Terminal}
 use Rattle.mm_parse_expr.specs.declared.fault.ParseFault.{ParseFault}
 use Rattle.mm_parse_expr.specs.declared.fault.ParseFault.TheVariants.{OutsideProfile, BadSyntax}
 use Rattle.mm_parse_expr.specs.Terminals.{terminal_of}
-
--- one behind the last character of a text
-abbrev pub end_of : List ℕ → At
-end_of text = (past_all start (chars text)).at
-
--- the place behind a character
-abbrev pub behind : At → ℕ → At
-behind at c = if c == 10 then record { line = at.line + 1; column = 1 } else record { line = at.line; column = at.column + 1 }
 
 -- the fault at a terminal with this symbol
 abbrev pub refusal : Symbol → Terminal → ParseFault

@@ -1,12 +1,11 @@
 //! Where the tokens are no expression.
-ghost use Rattle.std.specs.Prelude.{◌≡◌, ◌≢◌, ◌≤◌, ◌<◌, ◌+◌, [], ◌∷◌, length, MatchOption};
-ghost use Rattle.std.specs.Char.{len_utf8};
-ghost use Rattle.std.specs.Str.{chars};
+ghost use Rattle.std.specs.Prelude.{◌≡◌, ◌≢◌, ◌≤◌, length};
 ghost use Rattle.mm_parse_expr.specs.Faults as spec;
 
 use crate::symbol::Symbol;
 use crate::terminal::Terminal;
 use mm_goto::{At, Ident, NoMemory};
+use mm_lexer::end_of;
 use std::alloc::Global;
 
 /// Why tokens were not parsed.
@@ -29,51 +28,6 @@ impl From<NoMemory> for ParseFault {
     fn from(_: NoMemory) -> ParseFault {
         ParseFault::NoMemory
     }
-}
-
-/// The first character and what stands behind it.
-fn split(text: &str) -> Option<(char, &str)>
-    ensures cases { MatchOption result (chars text.now ≡ []) (λ r. chars text.now ≡ r.0 ∷ chars r.1.now) }
-    ensures shorter { MatchOption result (length text.now ≡ 0) (λ r. length text.now ≡ len_utf8 r.0 + length r.1.now) }
-{
-    let mut characters = text.chars();
-    match characters.next() {
-        Some(c) => Some((c, characters.as_str())),
-        None => None,
-    }
-}
-
-/// The place behind a character.
-fn behind(at: At, c: char) -> At
-    requires line { at.line < 4294967295 }
-    requires column { at.column < 4294967295 }
-    ensures { result ≡ spec.behind at c }
-{
-    if c == '\n' {
-        At {
-            line: at.line + 1,
-            column: 1,
-        }
-    } else {
-        At {
-            line: at.line,
-            column: at.column + 1,
-        }
-    }
-}
-
-/// One behind the last character of a text.
-fn end_of(text: &str) -> At
-    requires { length text.now ≤ 16777216 }
-    ensures { result ≡ spec.end_of text.now }
-{
-    let mut at = At { line: 1, column: 1 };
-    let mut rest = text;
-    while let Some((c, others)) = split(rest) {
-        at = behind(at, c);
-        rest = others;
-    }
-    at
 }
 
 /// The fault at the first of these terminals, or at the end of the text.

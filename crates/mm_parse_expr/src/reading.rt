@@ -134,7 +134,13 @@ fn element_tree(alloc: Global, at: At, name: &str, index: Option<Expr>) -> Resul
     Ok(Expr { at, node })
 }
 
-fn address_tree(alloc: Global, at: At, name: Word, index: Option<Expr>) -> Result<Expr, NoMemory>
+/// The address of a name, or of an element where an index stands behind it.
+pub fn address_tree(
+    alloc: Global,
+    at: At,
+    name: Word,
+    index: Option<Expr>,
+) -> Result<Expr, NoMemory>
     ensures { IfOk result (λ e. e ≡ spec.address_tree at name index) }
 {
     let node = match index {

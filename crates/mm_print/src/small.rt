@@ -1,31 +1,10 @@
 ghost use Rattle.std.specs.Prelude.{◌≡◌, ◌+◌, ◌<◌, ◌^◌, ◌++◌, OnOk, IfOk, length, string_bytes};
 ghost use Rattle.std.specs.List.{flat_map};
-ghost use Rattle.std.specs.Fmt.{decimal, signed_decimal};
 ghost use Rattle.mm_print.specs.SmallText.{local_text, unary_mark, binary_mark, opening, closing, operand, written, cell_text, label_text, instr_text, line_text, code_text, global_text, locals_text, main_text, head_text, small_text};
 
+use mm_goto::text::{put, put_int, put_number};
 use mm_goto::{Binary, Bound, Cell, Instr, NoMemory, Program, Pure, Target, Thread, Unary};
 use std::alloc::Global;
-
-fn put(out: &mut String, text: &str) -> Result<(), NoMemory>
-    ensures { OnOk result (string_bytes out.new ≡ string_bytes out.old ++ text.now) }
-{
-    out.push_str(text)?;
-    Ok(())
-}
-
-fn put_number(alloc: Global, out: &mut String, n: u64) -> Result<(), NoMemory>
-    ensures { OnOk result (string_bytes out.new ≡ string_bytes out.old ++ decimal n) }
-{
-    let text = n.to_string(alloc)?;
-    put(out, &text)
-}
-
-fn put_int(alloc: Global, out: &mut String, n: i32) -> Result<(), NoMemory>
-    ensures { OnOk result (string_bytes out.new ≡ string_bytes out.old ++ signed_decimal n) }
-{
-    let text = n.to_string(alloc)?;
-    put(out, &text)
-}
 
 fn put_local(alloc: Global, out: &mut String, local: u32) -> Result<(), NoMemory>
     ensures { OnOk result (string_bytes out.new ≡ string_bytes out.old ++ local_text local) }

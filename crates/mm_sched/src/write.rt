@@ -1,5 +1,4 @@
 ghost use Rattle.std.specs.Prelude.{◌≡◌, ◌+◌, ◌<◌, ◌^◌, ◌++◌, ◌∷◌, [], replicate, OnOk, IfOk, string_bytes};
-ghost use Rattle.std.specs.Fmt.{decimal, signed_decimal};
 ghost use Rattle.mm_sched.specs.ScheduleText.{newline, entries_in, entries_of};
 ghost use Rattle.mm_sched.specs.Spelling.{last_part, text_of, spelled_lines, spell};
 ghost use Rattle.mm_sched.specs.ScheduleText.{times};
@@ -9,6 +8,7 @@ ghost use Rattle.mm_sched.specs.Writing.{held_line, closed, joined, filled, grow
 use super::entry::Entry;
 use super::schedule::{FULL, Line, Schedule};
 use mm_goto::NoMemory;
+use mm_goto::text::{put, put_int, put_number};
 use std::alloc::Global;
 
 /// Steps of one thread that are not written yet, fewer than fill a line.
@@ -18,27 +18,6 @@ pub struct Held {
     pub steps: u32,
 }
 
-fn put(out: &mut String, text: &str) -> Result<(), NoMemory>
-    ensures { OnOk result (string_bytes out.new ≡ string_bytes out.old ++ text.now) }
-{
-    out.push_str(text)?;
-    Ok(())
-}
-
-fn put_number(alloc: Global, out: &mut String, n: u32) -> Result<(), NoMemory>
-    ensures { OnOk result (string_bytes out.new ≡ string_bytes out.old ++ decimal n) }
-{
-    let text = n.to_string(alloc)?;
-    put(out, &text)
-}
-
-fn put_int(alloc: Global, out: &mut String, n: i32) -> Result<(), NoMemory>
-    ensures { OnOk result (string_bytes out.new ≡ string_bytes out.old ++ signed_decimal n) }
-{
-    let text = n.to_string(alloc)?;
-    put(out, &text)
-}
-
 // A line without its newline.
 fn put_text(alloc: Global, out: &mut String, item: Entry, count: u32) -> Result<(), NoMemory>
     ensures { OnOk result (string_bytes out.new ≡ string_bytes out.old ++ text_of item count) }
@@ -46,29 +25,29 @@ fn put_text(alloc: Global, out: &mut String, item: Entry, count: u32) -> Result<
     match item {
         Entry::Step(thread) if count == 1 => {
             put(out, "step ")?;
-            put_number(alloc, out, thread)
+            put_number(alloc, out, u64::from(thread))
         }
         Entry::Step(thread) => {
             put(out, "steps ")?;
-            put_number(alloc, out, thread)?;
+            put_number(alloc, out, u64::from(thread))?;
             put(out, " ")?;
-            put_number(alloc, out, count)
+            put_number(alloc, out, u64::from(count))
         }
         Entry::In(thread, value) => {
             put(out, "in ")?;
-            put_number(alloc, out, thread)?;
+            put_number(alloc, out, u64::from(thread))?;
             put(out, " ")?;
             put_int(alloc, out, value)
         }
         Entry::Flush(thread) => {
             put(out, "flush ")?;
-            put_number(alloc, out, thread)
+            put_number(alloc, out, u64::from(thread))
         }
         Entry::FlushCell(thread, cell) => {
             put(out, "flush ")?;
-            put_number(alloc, out, thread)?;
+            put_number(alloc, out, u64::from(thread))?;
             put(out, " ")?;
-            put_number(alloc, out, cell)
+            put_number(alloc, out, u64::from(cell))
         }
     }
 }
