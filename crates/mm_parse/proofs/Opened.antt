@@ -46,7 +46,7 @@ module _ (n : ℕ) (i : Inner) where
     where
       by : (s : Symbol) → after (o.named_by n t s (u ∷ us)) (o.within n i) ≡ r.named_by_next n i t s (u ∷ us)
       by Colon = refl
-      by s = whole_on (r.named_by_next n (inner 0) t s (u ∷ us))
+      by s = whole_on (r.named_by_next n o.holds_none t s (u ∷ us))
 
   pub node_on : (t : Terminal) (us : List Terminal) (s : Symbol) → after (begun t (o.opening_by n s t) us) (o.within n i) ≡ begun t (node_by n i s t) us
   unfolding pure

@@ -37,12 +37,16 @@ pub while_on : (n : ℕ) (i : Inner) (ts : List Terminal) → while n i ts ≡ a
 unfolding while
 while_on n i ts = tested n (λ e. i.stmt >>= λ s. pure (node.While e s)) ts
 
+pub with_expr_on : (n : ℕ) (make : Expr → StmtNode) (ts : List Terminal) → with_expr n make ts ≡ after (in_parentheses n ts) (λ e. ended (make e))
+unfolding with_expr
+with_expr_on n make ts = tested n (λ e. ended (make e)) ts
+
 pub do_while_on : (n : ℕ) (i : Inner) (ts : List Terminal) → do_while n i ts ≡ after (i.stmt ts) (λ s. while_word >> (in_parentheses n >>= λ e. ended (node.DoWhile s e)))
-unfolding do_while with_expr
+unfolding do_while
 do_while_on n i ts = by (i.stmt ts)
   where
     back : (s : Stmt) (o : Outcome Terminal (Unit {0})) → after o (λ _. with_expr n (λ e. node.DoWhile s e)) ≡ after o (λ _. in_parentheses n >>= λ e. ended (node.DoWhile s e))
-    back s (Parsed u rest) = tested n (λ e. ended (node.DoWhile s e)) rest
+    back s (Parsed u rest) = with_expr_on n (λ e. node.DoWhile s e) rest
     back s (Fault rest) = refl
 
     by : (o : Outcome Terminal Stmt) → after o (λ s. while_word >> with_expr n (λ e. node.DoWhile s e)) ≡ after o (λ s. while_word >> (in_parentheses n >>= λ e. ended (node.DoWhile s e)))

@@ -1,8 +1,6 @@
 -- What is read where the first terminal tells how it goes on, and the parts of a block and of a program one by one.
 use Rattle.std.specs.Prelude.{◌≡◌, ℕ, List, [], ◌∷◌, Option, Some, None, Result, Ok, Err, Vec}
 use Rattle.std.specs.Borrow.{Bor}
-use Rattle.mm_goto.specs.declared.pure.Binary.{Binary}
-use Rattle.mm_goto.specs.declared.pure.Binary.TheVariants as binary
 use Rattle.mm_tree.specs.declared.expr.Expr.{Expr}
 use Rattle.mm_tree.specs.declared.stmt.Left.{Left}
 use Rattle.mm_tree.specs.declared.stmt.Stmt.{Stmt}
@@ -13,12 +11,11 @@ use Rattle.mm_reading.specs.Gives.{Fails}
 use Rattle.mm_reading.specs.Parsing.{Outcome, Parsed, Fault, head, ◌>>=◌, ◌>>◌, pure, fail, peek, skip}
 use Rattle.mm_reading.specs.declared.refused.Refused.{Refused}
 use Rattle.mm_parse_expr.specs.declared.symbol.Symbol.{Symbol}
-use Rattle.mm_parse_expr.specs.declared.symbol.Symbol.TheVariants.{Update, CloseBrace}
+use Rattle.mm_parse_expr.specs.declared.symbol.Symbol.TheVariants.{CloseBrace}
 use Rattle.mm_parse_expr.specs.declared.terminal.Terminal.{Terminal}
-use Rattle.mm_parse_expr.specs.Grammar.{word}
 use Rattle.mm_parse_expr.specs.Reading.{Reader, close}
 use Rattle.mm_parse.specs.StatementGrammar.{statement}
-use Rattle.mm_parse.specs.StatementReading.{Inner, expr, open_mark, plain, named_value, set, declaration_by, first, condition, step, given, ended, node_by, either, stmt, body}
+use Rattle.mm_parse.specs.StatementReading.{Inner, expr, open_mark, plain, named_value, set, declaration_by, first, condition, step, given, ended, node_by, either, body}
 
 -- the items of what was read, and the tokens after it, or the fault
 abbrev pub GivesAll : {T A G : Type 0} → Result (Vec A G × Bor (List T)) Refused → Outcome T (List A) → Type 0
@@ -29,11 +26,6 @@ GivesAll (Err e) o = Fails e o
 abbrev pub begun : {A : Type 0} → Terminal → Option (Reader A) → Reader A
 begun t None ts = Fault (t ∷ ts)
 begun t (Some p) ts = p ts
-
--- the operator of an update, and "+" for any other symbol
-abbrev pub updated : Symbol → Binary
-updated (Update op) = op
-updated _ = binary.Add
 
 -- a value that begins with a name
 abbrev pub from_name : ℕ → Reader Value
@@ -59,10 +51,6 @@ closed p = p >>= ended
 -- behind "return"
 abbrev pub returned : ℕ → Reader StmtNode
 returned n = given n >>= λ v. pure (node.Return v)
-
--- behind the label t and ":"
-abbrev pub labelled : ℕ → Terminal → Reader StmtNode
-labelled n t = stmt n >>= λ s. pure (node.Label (word t.at t.spelling) s)
 
 -- behind "{"
 abbrev pub block : ℕ → Reader StmtNode

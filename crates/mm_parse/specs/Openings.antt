@@ -18,10 +18,14 @@ use Rattle.mm_parse.specs.declared.reading.opening.Head.TheVariants as over
 use Rattle.mm_parse.specs.declared.reading.opening.Opening.{Opening}
 use Rattle.mm_parse.specs.declared.reading.opening.Opening.TheVariants as begins
 use Rattle.mm_parse.specs.StatementGrammar.{statement}
-use Rattle.mm_parse.specs.StatementReading.{Inner, while_word, ended, declaration_by, else_at, named_by_next, behind_word, node_by, inner}
+use Rattle.mm_parse.specs.StatementReading.{Inner, while_word, ended, declaration_by, else_at, named_by_next, behind_word, node_by}
 use Rattle.mm_parse.specs.Begun.{in_parentheses, header}
 
 -- ---- statements that hold no other
+
+-- readers of what stands within, for a statement that holds none
+abbrev pub holds_none : Inner
+holds_none = record { stmt = fail; body = fail }
 
 -- behind a word; None where no such statement begins with it
 abbrev pub simple_word : ℕ → Reserved → Terminal → Option (Reader StmtNode)
@@ -29,14 +33,14 @@ simple_word n reserved.If t = None
 simple_word n reserved.While t = None
 simple_word n reserved.Do t = None
 simple_word n reserved.For t = None
-simple_word n k t = behind_word n (inner 0) k t
+simple_word n k t = behind_word n holds_none k t
 
 -- behind the first terminal, other than a name; None where no such statement begins with it
 abbrev pub simple_by : ℕ → Symbol → Terminal → Option (Reader StmtNode)
 simple_by n OpenBrace t = None
 simple_by n Name t = None
 simple_by n (Keyword k) t = simple_word n k t
-simple_by n s t = node_by n (inner 0) s t
+simple_by n s t = node_by n holds_none s t
 
 abbrev pub whole : Reader StmtNode → Reader Opening
 whole p = p >>= λ m. pure (begins.Whole m)
@@ -49,7 +53,7 @@ whole_of (Some p) = Some (whole p)
 
 abbrev pub named_by : ℕ → Terminal → Symbol → Reader Opening
 named_by n t Colon = skip >> pure (begins.Holds (over.Label (word t.at t.spelling)))
-named_by n t s = whole (named_by_next n (inner 0) t s)
+named_by n t s = whole (named_by_next n holds_none t s)
 
 abbrev pub named_at : ℕ → Terminal → Option Terminal → Reader Opening
 named_at n t None = fail

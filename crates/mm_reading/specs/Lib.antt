@@ -1,3 +1,4 @@
 pub mod Gives
+pub mod Keeping
 pub mod Parsing
 pub mod Runs

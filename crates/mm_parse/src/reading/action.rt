@@ -2,12 +2,13 @@
 ghost use Rattle.mm_reading.specs.Gives.{Gives};
 ghost use Rattle.mm_parse.specs.StatementReading as spec;
 
+use super::header::read_test;
 use super::marks::{
     read_ampersand, read_comma, read_null, read_open_mark, read_semicolon, read_text,
 };
 use super::value::read_value;
 use mm_parse_expr::{Symbol, Terminal, read_close, read_expr, read_name};
-use mm_reading::Refused;
+use mm_reading::{Refused, keep, pair};
 use mm_tree::{StmtNode, Value, Word};
 use std::alloc::Global;
 
@@ -19,8 +20,7 @@ pub fn read_ended<'a>(
 ) -> Result<(StmtNode, &'a [Terminal<'a>]), Refused>
     ensures { Gives result (spec.ended node ts.now) }
 {
-    let rest = read_semicolon(ts)?;
-    Ok((node, rest))
+    keep(node, read_semicolon(ts))
 }
 
 /// `( ) ;`.
@@ -31,13 +31,13 @@ pub fn read_bare<'a>(
 ) -> Result<(StmtNode, &'a [Terminal<'a>]), Refused>
     ensures { Gives result (spec.bare node ts.now) }
 {
-    let rest = read_open_mark(ts)?;
-    let rest = read_close(rest)?;
+    let (node, rest) = keep(node, read_open_mark(ts))?;
+    let (node, rest) = keep(node, read_close(rest))?;
     read_ended(node, rest)
 }
 
 /// What stands behind `assert`.
-#[tactic(auto, unfolding(crate::specs::StatementReading::with_expr, mm_reading::specs::Parsing::pure))]
+#[tactic(auto, using(crate::proofs::Tested::with_expr_on))]
 pub fn read_assert<'a>(
     alloc: Global,
     bound: usize,
@@ -46,9 +46,7 @@ pub fn read_assert<'a>(
 ) -> Result<(StmtNode, &'a [Terminal<'a>]), Refused>
     ensures { Gives result (spec.with_expr bound (λ e. StmtNode.Assert e None) ts.now) }
 {
-    let rest = read_open_mark(ts)?;
-    let (test, rest) = read_expr(alloc, bound, depth, rest)?;
-    let rest = read_close(rest)?;
+    let (test, rest) = read_test(alloc, bound, depth, ts)?;
     read_ended(StmtNode::Assert(test, None), rest)
 }
 
@@ -64,14 +62,14 @@ pub fn read_named_assert<'a>(
 {
     let rest = read_open_mark(ts)?;
     let (test, rest) = read_expr(alloc, bound, depth, rest)?;
-    let rest = read_comma(rest)?;
-    let (text, rest) = read_text(alloc, rest)?;
-    let rest = read_close(rest)?;
-    read_ended(StmtNode::Assert(test, Some(text)), rest)
+    let (test, rest) = keep(test, read_comma(rest))?;
+    let ((test, text), rest) = pair(test, read_text(alloc, rest))?;
+    let (node, rest) = keep(StmtNode::Assert(test, Some(text)), read_close(rest))?;
+    read_ended(node, rest)
 }
 
 /// What stands behind `__CPROVER_assume`.
-#[tactic(auto, unfolding(crate::specs::StatementReading::with_expr, mm_reading::specs::Parsing::pure))]
+#[tactic(auto, using(crate::proofs::Tested::with_expr_on))]
 pub fn read_assume<'a>(
     alloc: Global,
     bound: usize,
@@ -80,9 +78,7 @@ pub fn read_assume<'a>(
 ) -> Result<(StmtNode, &'a [Terminal<'a>]), Refused>
     ensures { Gives result (spec.with_expr bound StmtNode.Assume ts.now) }
 {
-    let rest = read_open_mark(ts)?;
-    let (test, rest) = read_expr(alloc, bound, depth, rest)?;
-    let rest = read_close(rest)?;
+    let (test, rest) = read_test(alloc, bound, depth, ts)?;
     read_ended(StmtNode::Assume(test), rest)
 }
 
@@ -97,7 +93,7 @@ pub fn read_lock<'a>(
     let rest = read_open_mark(ts)?;
     let rest = read_ampersand(rest)?;
     let (mutex, rest) = read_name(alloc, rest)?;
-    let rest = read_close(rest)?;
+    let (mutex, rest) = keep(mutex, read_close(rest))?;
     read_ended(StmtNode::Lock(mutex), rest)
 }
 
@@ -112,7 +108,7 @@ pub fn read_unlock<'a>(
     let rest = read_open_mark(ts)?;
     let rest = read_ampersand(rest)?;
     let (mutex, rest) = read_name(alloc, rest)?;
-    let rest = read_close(rest)?;
+    let (mutex, rest) = keep(mutex, read_close(rest))?;
     read_ended(StmtNode::Unlock(mutex), rest)
 }
 
@@ -125,12 +121,12 @@ fn read_started<'a>(
 ) -> Result<(StmtNode, &'a [Terminal<'a>]), Refused>
     ensures { Gives result (spec.started thread ts.now) }
 {
-    let rest = read_comma(ts)?;
-    let (function, rest) = read_name(alloc, rest)?;
-    let rest = read_comma(rest)?;
-    let rest = read_null(rest)?;
-    let rest = read_close(rest)?;
-    read_ended(StmtNode::Start(thread, function), rest)
+    let (thread, rest) = keep(thread, read_comma(ts))?;
+    let ((thread, function), rest) = pair(thread, read_name(alloc, rest))?;
+    let (node, rest) = keep(StmtNode::Start(thread, function), read_comma(rest))?;
+    let (node, rest) = keep(node, read_null(rest))?;
+    let (node, rest) = keep(node, read_close(rest))?;
+    read_ended(node, rest)
 }
 
 /// What stands behind `pthread_create`.
@@ -144,8 +140,8 @@ pub fn read_start<'a>(
     let rest = read_open_mark(ts)?;
     let rest = read_ampersand(rest)?;
     let (thread, rest) = read_name(alloc, rest)?;
-    let rest = read_comma(rest)?;
-    let rest = read_null(rest)?;
+    let (thread, rest) = keep(thread, read_comma(rest))?;
+    let (thread, rest) = keep(thread, read_null(rest))?;
     read_started(alloc, thread, rest)
 }
 
@@ -159,9 +155,9 @@ pub fn read_join<'a>(
 {
     let rest = read_open_mark(ts)?;
     let (thread, rest) = read_name(alloc, rest)?;
-    let rest = read_comma(rest)?;
-    let rest = read_null(rest)?;
-    let rest = read_close(rest)?;
+    let (thread, rest) = keep(thread, read_comma(rest))?;
+    let (thread, rest) = keep(thread, read_null(rest))?;
+    let (thread, rest) = keep(thread, read_close(rest))?;
     read_ended(StmtNode::Join(thread), rest)
 }
 
@@ -198,8 +194,7 @@ pub fn read_given<'a>(
         ] => Ok((None, rest)),
         _ => {
             let (value, rest) = read_value(alloc, bound, depth, ts)?;
-            let rest = read_semicolon(rest)?;
-            Ok((Some(value), rest))
+            keep(Some(value), read_semicolon(rest))
         }
     }
 }

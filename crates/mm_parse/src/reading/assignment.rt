@@ -1,7 +1,6 @@
 //! Assignments.
 ghost use Rattle.std.specs.Prelude.{◌≡◌};
 ghost use Rattle.mm_reading.specs.Gives.{Gives};
-ghost use Rattle.mm_parse.specs.Begun.{updated};
 ghost use Rattle.mm_parse.specs.StatementGrammar as grammar;
 ghost use Rattle.mm_parse.specs.StatementReading as spec;
 
@@ -9,7 +8,7 @@ use super::left::read_left;
 use super::value::read_value;
 use mm_goto::{At, Binary};
 use mm_parse_expr::{Symbol, Terminal, read_expr};
-use mm_reading::Refused;
+use mm_reading::{Refused, pair};
 use mm_tree::{Expr, Left, Node, StmtNode};
 use std::alloc::Global;
 
@@ -19,16 +18,6 @@ pub fn one(at: At) -> Expr
 {
     let node = Node::Number(1);
     Expr { at, node }
-}
-
-/// The operator of an update, and `+` for any other symbol.
-fn updated(symbol: Symbol) -> Binary
-    ensures { result ≡ updated symbol }
-{
-    match symbol {
-        Symbol::Update(op) => op,
-        _ => Binary::Add,
-    }
 }
 
 /// What stands behind a left side.
@@ -42,43 +31,20 @@ pub fn read_set<'a>(
 ) -> Result<(StmtNode, &'a [Terminal<'a>]), Refused>
     ensures { Gives result (spec.set bound left ts.now) }
 {
-    match ts {
-        [
-            Terminal {
-                symbol: Symbol::Assign,
-                ..
-            },
-            rest @ ..,
-        ] => {
-            let (value, rest) = read_value(alloc, bound, depth, rest)?;
+    let [first, rest @ ..] = ts else {
+        return Err(Refused::Fault(0));
+    };
+    match first.symbol {
+        Symbol::Assign => {
+            let ((left, value), rest) = pair(left, read_value(alloc, bound, depth, rest))?;
             Ok((StmtNode::Assign(left, value), rest))
         }
-        [
-            Terminal {
-                symbol: symbol @ Symbol::Update(_),
-                ..
-            },
-            rest @ ..,
-        ] => {
-            let (expr, rest) = read_expr(alloc, bound, depth, rest)?;
-            Ok((StmtNode::Update(left, updated(*symbol), expr), rest))
+        Symbol::Update(op) => {
+            let ((left, expr), rest) = pair(left, read_expr(alloc, bound, depth, rest))?;
+            Ok((StmtNode::Update(left, op, expr), rest))
         }
-        [
-            Terminal {
-                symbol: Symbol::Increment,
-                at,
-                ..
-            },
-            rest @ ..,
-        ] => Ok((StmtNode::Update(left, Binary::Add, one(*at)), rest)),
-        [
-            Terminal {
-                symbol: Symbol::Decrement,
-                at,
-                ..
-            },
-            rest @ ..,
-        ] => Ok((StmtNode::Update(left, Binary::Sub, one(*at)), rest)),
+        Symbol::Increment => Ok((StmtNode::Update(left, Binary::Add, one(first.at)), rest)),
+        Symbol::Decrement => Ok((StmtNode::Update(left, Binary::Sub, one(first.at)), rest)),
         _ => Err(Refused::Fault(ts.len())),
     }
 }

@@ -9,7 +9,7 @@ use super::list::{Part, read_list};
 use super::marks::{read_int_word, read_semicolon, read_star};
 use super::value::read_value;
 use mm_parse_expr::{Keyword, Symbol, Terminal, read_name};
-use mm_reading::Refused;
+use mm_reading::{Refused, keep, pair};
 use mm_tree::{Local, StmtNode, Word};
 use std::alloc::Global;
 
@@ -70,7 +70,7 @@ fn read_local<'a>(
             },
             rest @ ..,
         ] => {
-            let (value, rest) = read_value(alloc, bound, depth, rest)?;
+            let ((name, value), rest) = pair(name, read_value(alloc, bound, depth, rest))?;
             let value = Some(value);
             Ok((
                 Local {
@@ -119,8 +119,7 @@ fn read_ints<'a>(
     ensures { Gives result (spec.ints bound ts.now) }
 {
     let (locals, rest) = read_list::<LocalItem>(alloc, bound, depth, ts)?;
-    let rest = read_semicolon(rest)?;
-    Ok((StmtNode::Declare(locals), rest))
+    keep(StmtNode::Declare(locals), read_semicolon(rest))
 }
 
 /// What stands behind `pthread_t`.
@@ -134,8 +133,7 @@ fn read_threads<'a>(
     ensures { Gives result (spec.threads bound ts.now) }
 {
     let (names, rest) = read_list::<NameItem>(alloc, bound, depth, ts)?;
-    let rest = read_semicolon(rest)?;
-    Ok((StmtNode::DeclareThread(names), rest))
+    keep(StmtNode::DeclareThread(names), read_semicolon(rest))
 }
 
 /// What a declaration goes on with behind its first token.

@@ -9,7 +9,7 @@ use super::marks::{read_int_word, read_open_brace, read_open_mark, read_semicolo
 use super::statement::read_body;
 use mm_goto::{Binary, Ident, List};
 use mm_parse_expr::{Keyword, Symbol, Terminal, read_close, read_name};
-use mm_reading::Refused;
+use mm_reading::{Refused, keep, pair};
 use mm_tree::{Gives, Item, Param, Word};
 use std::alloc::Global;
 
@@ -48,8 +48,8 @@ fn read_function<'a>(
 ) -> Result<(Item, &'a [Terminal<'a>]), Refused>
     ensures { Reads result (spec.function bound gives name params ts.now) }
 {
-    let rest = read_open_brace(ts)?;
-    let (body, rest) = read_body(alloc, bound, depth, rest)?;
+    let (front, rest) = keep((name, params), read_open_brace(ts))?;
+    let (((name, params), body), rest) = pair(front, read_body(alloc, bound, depth, rest))?;
     let Word { at, name } = name;
     Ok((
         Item::Function {
@@ -94,8 +94,7 @@ fn read_params<'a>(
         }
         _ => {
             let (params, rest) = read_list::<ParamItem>(alloc, bound, depth, ts)?;
-            let rest = read_close(rest)?;
-            Ok((params, rest))
+            keep(params, read_close(rest))
         }
     }
 }
@@ -202,8 +201,8 @@ fn read_thread_function<'a>(
     ensures { Reads result (spec.thread_function bound ts.now) }
 {
     let (name, rest) = read_name(alloc, ts)?;
-    let rest = read_open_mark(rest)?;
-    let (params, rest) = read_thread_params(alloc, rest)?;
+    let (name, rest) = keep(name, read_open_mark(rest))?;
+    let ((name, params), rest) = pair(name, read_thread_params(alloc, rest))?;
     read_function(alloc, bound, depth, Gives::Thread, name, params, rest)
 }
 
@@ -219,7 +218,7 @@ pub fn read_with_params<'a>(
 ) -> Result<(Item, &'a [Terminal<'a>]), Refused>
     ensures { Reads result (spec.with_params bound gives name ts.now) }
 {
-    let (params, rest) = read_params(alloc, bound, depth, ts)?;
+    let ((name, params), rest) = pair(name, read_params(alloc, bound, depth, ts))?;
     read_function(alloc, bound, depth, gives, name, params, rest)
 }
 
@@ -244,7 +243,7 @@ pub fn read_void_item<'a>(
         ] => read_thread_function(alloc, bound, depth, rest),
         _ => {
             let (name, rest) = read_name(alloc, ts)?;
-            let rest = read_open_mark(rest)?;
+            let (name, rest) = keep(name, read_open_mark(rest))?;
             read_with_params(alloc, bound, depth, Gives::Nothing, name, rest)
         }
     }
@@ -313,12 +312,12 @@ pub fn read_asked<'a>(
             },
             rest @ ..,
         ] => {
-            let rest = read_close(rest)?;
+            let (name, rest) = keep(name, read_close(rest))?;
             read_no_params(alloc, bound, depth, may_ask, name, rest)
         }
         _ => {
-            let (params, rest) = read_list::<ParamItem>(alloc, bound, depth, ts)?;
-            let rest = read_close(rest)?;
+            let (front, rest) = pair(name, read_list::<ParamItem>(alloc, bound, depth, ts))?;
+            let ((name, params), rest) = keep(front, read_close(rest))?;
             read_function(alloc, bound, depth, Gives::Int, name, params, rest)
         }
     }
@@ -351,10 +350,9 @@ pub fn read_external<'a>(
 {
     let rest = read_int_word(ts)?;
     let (name, rest) = read_name(alloc, rest)?;
-    let rest = read_open_mark(rest)?;
-    let rest = read_void_or_not(rest);
-    let rest = read_close(rest)?;
-    let rest = read_semicolon(rest)?;
+    let (name, rest) = keep(name, read_open_mark(rest))?;
     let Word { at, name } = name;
-    Ok((Item::InputDecl(at, name), rest))
+    let rest = read_void_or_not(rest);
+    let (item, rest) = keep(Item::InputDecl(at, name), read_close(rest))?;
+    keep(item, read_semicolon(rest))
 }

@@ -11,7 +11,7 @@ use super::marks::{read_close_brace, read_initializer, read_open_brace, read_sta
 use super::number::{read_const, read_init, read_number};
 use mm_goto::{List, NoMemory};
 use mm_parse_expr::{Symbol, Terminal, read_close_bracket, read_name};
-use mm_reading::Refused;
+use mm_reading::{Refused, keep, pair};
 use mm_tree::{Expr, Global as Variable, Word};
 use std::alloc::Global;
 
@@ -74,10 +74,7 @@ impl Part for MutexItem {
                     ..
                 },
                 rest @ ..,
-            ] => {
-                let rest = read_initializer(rest)?;
-                Ok((name, rest))
-            }
+            ] => keep(name, read_initializer(rest)),
             _ => Ok((name, ts)),
         }
     }
@@ -137,7 +134,7 @@ pub fn read_scalar<'a>(
             },
             rest @ ..,
         ] => {
-            let (value, rest) = read_init(alloc, rest)?;
+            let ((name, value), rest) = pair(name, read_init(alloc, rest))?;
             Ok((scalar_tree(alloc, pointer, name, Some(value))?, rest))
         }
         _ => Ok((scalar_tree(alloc, pointer, name, None)?, ts)),
@@ -164,10 +161,12 @@ fn read_elements<'a>(
             },
             rest @ ..,
         ] => {
-            let rest = read_open_brace(rest)?;
-            let (init, rest) = read_list::<ConstItem>(alloc, bound, depth, rest)?;
-            let rest = read_close_brace(rest)?;
-            Ok((array_tree(name, len, init), rest))
+            let (name, rest) = keep(name, read_open_brace(rest))?;
+            let ((name, init), rest) = pair(
+                name,
+                read_list::<ConstItem>(alloc, bound, depth, rest),
+            )?;
+            keep(array_tree(name, len, init), read_close_brace(rest))
         }
         _ => Ok((array_tree(name, len, List::new(Vec::new(alloc))), ts)),
     }
@@ -184,8 +183,8 @@ fn read_array<'a>(
 ) -> Result<(Variable, &'a [Terminal<'a>]), Refused>
     ensures { Gives result (spec.array bound name ts.now) }
 {
-    let (len, rest) = read_number(ts)?;
-    let rest = read_close_bracket(rest)?;
+    let ((name, len), rest) = pair(name, read_number(ts))?;
+    let (name, rest) = keep(name, read_close_bracket(rest))?;
     read_elements(alloc, bound, depth, name, len, rest)
 }
 

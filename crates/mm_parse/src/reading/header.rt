@@ -7,7 +7,7 @@ use super::assignment::{one, read_assign};
 use super::declaration::read_declaration;
 use super::marks::{read_open_mark, read_semicolon};
 use mm_parse_expr::{Keyword, Symbol, Terminal, read_close, read_expr};
-use mm_reading::Refused;
+use mm_reading::{Refused, keep, pair};
 use mm_tree::{Expr, Stmt};
 use sqlite_items::Boxed;
 use std::alloc::Global;
@@ -24,8 +24,7 @@ pub fn read_test<'a>(
 {
     let rest = read_open_mark(ts)?;
     let (test, rest) = read_expr(alloc, bound, depth, rest)?;
-    let rest = read_close(rest)?;
-    Ok((test, rest))
+    keep(test, read_close(rest))
 }
 
 /// What a loop begins with, and `;`.
@@ -60,7 +59,7 @@ fn read_first<'a>(
         }
         [Terminal { at, .. }, ..] => {
             let (node, rest) = read_assign(alloc, bound, depth, ts)?;
-            let rest = read_semicolon(rest)?;
+            let (node, rest) = keep(node, read_semicolon(rest))?;
             Ok((Some(Boxed::new(alloc, Stmt { at: *at, node })?), rest))
         }
     }
@@ -88,8 +87,7 @@ fn read_condition<'a>(
         ] => Ok((one(*at), rest)),
         _ => {
             let (test, rest) = read_expr(alloc, bound, depth, ts)?;
-            let rest = read_semicolon(rest)?;
-            Ok((test, rest))
+            keep(test, read_semicolon(rest))
         }
     }
 }
@@ -115,7 +113,7 @@ fn read_step<'a>(
         ] => Ok((None, rest)),
         [Terminal { at, .. }, ..] => {
             let (node, rest) = read_assign(alloc, bound, depth, ts)?;
-            let rest = read_close(rest)?;
+            let (node, rest) = keep(node, read_close(rest))?;
             Ok((Some(Boxed::new(alloc, Stmt { at: *at, node })?), rest))
         }
     }
@@ -139,7 +137,7 @@ pub fn read_header<'a>(
 {
     let rest = read_open_mark(ts)?;
     let (first, rest) = read_first(alloc, bound, depth, rest)?;
-    let (test, rest) = read_condition(alloc, bound, depth, rest)?;
-    let (step, rest) = read_step(alloc, bound, depth, rest)?;
+    let (front, rest) = pair(first, read_condition(alloc, bound, depth, rest))?;
+    let (((first, test), step), rest) = pair(front, read_step(alloc, bound, depth, rest))?;
     Ok(((first, test, step), rest))
 }

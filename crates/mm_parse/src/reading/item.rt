@@ -12,7 +12,7 @@ use super::list::{onwards, read_list, read_others};
 use super::marks::read_semicolon;
 use mm_goto::{Binary, List};
 use mm_parse_expr::{Keyword, Symbol, Terminal, read_name};
-use mm_reading::Refused;
+use mm_reading::{Refused, keep};
 use mm_tree::{Gives, Global as Variable, Item, Tree, Word};
 use std::alloc::Global;
 
@@ -28,8 +28,7 @@ fn read_globals<'a>(
     ensures { Reads result (part.globals_behind bound first ts.now) }
 {
     let (globals, rest) = read_others::<GlobalItem>(alloc, bound, depth, first, ts)?;
-    let rest = read_semicolon(rest)?;
-    Ok((Item::Globals(globals), rest))
+    keep(Item::Globals(globals), read_semicolon(rest))
 }
 
 /// What stands behind `int` and a name.
@@ -143,8 +142,7 @@ fn read_mutexes<'a>(
     ensures { Reads result (spec.mutexes bound ts.now) }
 {
     let (names, rest) = read_list::<MutexItem>(alloc, bound, depth, ts)?;
-    let rest = read_semicolon(rest)?;
-    Ok((Item::Mutexes(names), rest))
+    keep(Item::Mutexes(names), read_semicolon(rest))
 }
 
 /// What stands behind `pthread_t`.
@@ -158,8 +156,7 @@ fn read_threads<'a>(
     ensures { Reads result (spec.threads bound ts.now) }
 {
     let (names, rest) = read_list::<NameItem>(alloc, bound, depth, ts)?;
-    let rest = read_semicolon(rest)?;
-    Ok((Item::Threads(names), rest))
+    keep(Item::Threads(names), read_semicolon(rest))
 }
 
 /// What stands behind `static` or `volatile` and another token. It wants memory where `depth` is 0.

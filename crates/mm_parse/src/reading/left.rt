@@ -5,7 +5,7 @@ ghost use Rattle.mm_parse.specs.StatementReading as spec;
 
 use mm_goto::{At, Binary, Ident, NoMemory};
 use mm_parse_expr::{Symbol, Terminal, read_close, read_index, read_unary};
-use mm_reading::Refused;
+use mm_reading::{Refused, keep};
 use mm_tree::{Expr, Left, LeftNode};
 use std::alloc::Global;
 
@@ -66,8 +66,7 @@ pub fn read_grouped_left<'a>(
     ensures { Gives result (spec.grouped_left (spec.left bound) ts.now) }
 {
     let (left, rest) = read_left(alloc, bound, depth, ts)?;
-    let rest = read_close(rest)?;
-    Ok((left, rest))
+    keep(left, read_close(rest))
 }
 
 /// A left side. It wants memory where `depth` is 0, and `bound` is above the number of tokens.

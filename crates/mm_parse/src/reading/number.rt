@@ -1,16 +1,14 @@
 //! Numbers and initialisers.
-ghost use Rattle.std.specs.Prelude.{◌≡◌, IfOk};
+ghost use Rattle.std.specs.Prelude.{◌≡◌};
 ghost use Rattle.mm_reading.specs.Gives.{Gives};
 ghost use Rattle.mm_reading.specs.Parsing.{head};
-ghost use Rattle.mm_parse_expr.specs.Reading as reading;
 ghost use Rattle.mm_parse.specs.ProgramGrammar as grammar;
 ghost use Rattle.mm_parse.specs.ProgramReading as spec;
 
-use mm_goto::{At, Binary, NoMemory};
-use mm_parse_expr::{Symbol, Terminal, number_in, read_close_bracket, read_name};
-use mm_reading::Refused;
-use mm_tree::{Expr, Node, Word};
-use sqlite_items::Boxed;
+use mm_goto::{At, Binary};
+use mm_parse_expr::{Symbol, Terminal, address_tree, number_in, read_close_bracket, read_name};
+use mm_reading::{Refused, keep, pair};
+use mm_tree::{Expr, Node};
 use std::alloc::Global;
 
 fn number_at(at: At, number: i32) -> Expr
@@ -83,17 +81,6 @@ pub fn read_const<'a>(ts: &'a [Terminal<'a>]) -> Result<(Expr, &'a [Terminal<'a>
     }
 }
 
-/// The address of a name, or of an element where an index stands behind it.
-fn address_tree(alloc: Global, at: At, name: Word, index: Option<Expr>) -> Result<Expr, NoMemory>
-    ensures { IfOk result (λ e. e ≡ reading.address_tree at name index) }
-{
-    let node = match index {
-        Some(index) => Node::AddrIndex(name, Boxed::new(alloc, index)?),
-        None => Node::AddrName(name),
-    };
-    Ok(Expr { at, node })
-}
-
 /// What stands behind `&`.
 #[tactic(auto, unfolding(crate::specs::ProgramReading::address, mm_reading::specs::Parsing::peek, mm_reading::specs::Parsing::skip, mm_reading::specs::Parsing::pure))]
 fn read_address<'a>(
@@ -112,8 +99,8 @@ fn read_address<'a>(
             },
             rest @ ..,
         ] => {
-            let (index, rest) = read_number_expr(rest)?;
-            let rest = read_close_bracket(rest)?;
+            let (front, rest) = pair(name, read_number_expr(rest))?;
+            let ((name, index), rest) = keep(front, read_close_bracket(rest))?;
             Ok((address_tree(alloc, first.at, name, Some(index))?, rest))
         }
         _ => Ok((address_tree(alloc, first.at, name, None)?, ts)),

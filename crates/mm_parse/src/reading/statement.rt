@@ -17,8 +17,7 @@ use sqlite_items::{Boxed, Items};
 use std::alloc::Global;
 
 /// How much of the depth an open statement takes, where an open expression takes 1. So 199 statements may be open, one
-/// within another: to read, copy, compare and drop them takes less than 4 MiB of the stack, where one within another takes
-/// 20 KB at most.
+/// within another. No proof sees the stack: docs/DECISIONS.md tells how much of it they were measured to take.
 pub const STATEMENT: u32 = 4;
 
 /// What stands behind the statement that is held.

@@ -7,7 +7,7 @@ use super::list::{Part, read_list};
 use super::marks::{read_comma, read_open_mark};
 use mm_goto::{Ident, List};
 use mm_parse_expr::{Keyword, Symbol, Terminal, read_close, read_expr};
-use mm_reading::Refused;
+use mm_reading::{Refused, keep, pair};
 use mm_tree::{Expr, Value};
 use std::alloc::Global;
 
@@ -50,8 +50,7 @@ fn read_arguments<'a>(
         ] => Ok((List::new(Vec::new(alloc)), rest)),
         _ => {
             let (arguments, rest) = read_list::<Argument>(alloc, bound, depth, ts)?;
-            let rest = read_close(rest)?;
-            Ok((arguments, rest))
+            keep(arguments, read_close(rest))
         }
     }
 }
@@ -85,10 +84,9 @@ pub fn read_fetch_add<'a>(
 {
     let rest = read_open_mark(ts)?;
     let (pointer, rest) = read_expr(alloc, bound, depth, rest)?;
-    let rest = read_comma(rest)?;
-    let (added, rest) = read_expr(alloc, bound, depth, rest)?;
-    let rest = read_close(rest)?;
-    Ok((Value::FetchAdd(first.at, pointer, added), rest))
+    let (pointer, rest) = keep(pointer, read_comma(rest))?;
+    let ((pointer, added), rest) = pair(pointer, read_expr(alloc, bound, depth, rest))?;
+    keep(Value::FetchAdd(first.at, pointer, added), read_close(rest))
 }
 
 /// What stands behind `__sync_bool_compare_and_swap`.
@@ -104,12 +102,14 @@ pub fn read_compare_swap<'a>(
 {
     let rest = read_open_mark(ts)?;
     let (pointer, rest) = read_expr(alloc, bound, depth, rest)?;
-    let rest = read_comma(rest)?;
-    let (old, rest) = read_expr(alloc, bound, depth, rest)?;
-    let rest = read_comma(rest)?;
-    let (new, rest) = read_expr(alloc, bound, depth, rest)?;
-    let rest = read_close(rest)?;
-    Ok((Value::CompareSwap(first.at, pointer, old, new), rest))
+    let (pointer, rest) = keep(pointer, read_comma(rest))?;
+    let (front, rest) = pair(pointer, read_expr(alloc, bound, depth, rest))?;
+    let (front, rest) = keep(front, read_comma(rest))?;
+    let (((pointer, old), new), rest) = pair(front, read_expr(alloc, bound, depth, rest))?;
+    keep(
+        Value::CompareSwap(first.at, pointer, old, new),
+        read_close(rest),
+    )
 }
 
 #[tactic(auto, unfolding(crate::specs::StatementReading::plain, mm_reading::specs::Parsing::pure))]
