@@ -1,6 +1,7 @@
 #!/usr/bin/env bash
-# Finds how much of the stack reading takes: for each form of statement, 198 of which stand one within another, the least
-# stack in which reading and dropping them ends, as LLVM builds the program and as Rattle's own compiler does.
+# Finds how much of the stack reading takes: for each form of statement, of which 198 stand one within another, and for
+# expressions of 500 parentheses and of 790 signs, the least stack in which reading and dropping them ends, as LLVM builds
+# the program and as Rattle's own compiler does.
 # It works on a copy of the crates, with a small program that reads its input.
 set -euo pipefail
 . "$(dirname "$0")/copy.sh"
@@ -30,26 +31,28 @@ MAIN
 printf 'int main(void) { ; }\n' > stdin
 echo true > stdout
 
-# 198 times the opening, a statement, and 198 times the closing
+# within main so many times the opening, what is inside, and as many times the closing
 nested() {
     printf 'int main(void) {\n'
-    for _ in $(seq 198); do printf '%s' "$1"; done
-    printf 'x = 1;'
-    for _ in $(seq 198); do printf '%s' "$2"; done
-    printf '}\n'
+    for _ in $(seq "$1"); do printf '%s' "$2"; done
+    printf '%s' "$3"
+    for _ in $(seq "$1"); do printf '%s' "$4"; done
+    printf '%s}\n' "$5"
 }
-nested '{' '}' > block
-nested 'do ' ' while (x);' > do
-nested 'while (x) ' '' > while
-nested 'for (x = 1; x; x = 2) ' '' > for
-nested 'if (x) ' '' > then
-nested 'if (x) ; else ' '' > else
-nested 'x: ' '' > label
+nested 198 '{' 'x = 1;' '}' '' > block
+nested 198 'do ' 'x = 1;' ' while (x);' '' > do
+nested 198 'while (x) ' 'x = 1;' '' '' > while
+nested 198 'for (x = 1; x; x = 2) ' 'x = 1;' '' '' > for
+nested 198 'if (x) ' 'x = 1;' '' '' > then
+nested 198 'if (x) ; else ' 'x = 1;' '' '' > else
+nested 198 'x: ' 'x = 1;' '' '' > label
+{ printf 'int main(void) { x = '; nested 500 '(' 1 ')' ';' | sed 1d; } > parenthesis
+{ printf 'int main(void) { x = '; nested 790 '- ' 1 '' ';' | sed 1d; } > sign
 
 ends() { [ "$( (ulimit -s "$1" && out/stack < "$2") 2>/dev/null)" = true ]; }
 for backend in llvm rattle; do
     rt run --backend $backend > build.log 2>&1 || { tail -20 build.log; exit 1; }
-    for form in block do while for then else label; do
+    for form in block do while for then else label parenthesis sign; do
         ends 262144 $form || { echo "$form is not read"; exit 1; }
         low=8 high=262144
         while [ $((high - low)) -gt $((low / 64 + 1)) ]; do

@@ -1,5 +1,5 @@
 -- Reading expressions by recursive descent.
-use Rattle.std.specs.Prelude.{◌≡◌, ℕ, ℤ, pos, zero, suc, ◌==◌, Bool, true, false, if◌then◌else◌, List, length, Option, Some, None, Result, Ok, Err}
+use Rattle.std.specs.Prelude.{◌≡◌, ℕ, zero, suc, ◌==◌, Bool, true, false, if◌then◌else◌, List, length, Option, Some, None, Result, Ok, Err}
 use Rattle.mm_goto.specs.declared.ident.At.{At}
 use Rattle.mm_goto.specs.declared.pure.Binary.{Binary}
 use Rattle.mm_goto.specs.declared.pure.Binary.TheVariants as bin
@@ -76,11 +76,6 @@ element_tree at name (Some e) = tree at (node.Index name e)
 abbrev pub address_tree : At → Word → Option Expr → Expr
 address_tree at w None = tree at (node.AddrName w)
 address_tree at w (Some e) = tree at (node.AddrIndex w e)
-
--- the number that a symbol is, and 0 for any other
-abbrev pub number_in : Symbol → ℤ
-number_in (Number n) = n
-number_in _ = pos 0
 
 abbrev pub primary_by : Lower → Symbol → Terminal → Reader Expr
 primary_by r (Number n) t = skip >> pure (tree t.at (node.Number n))

@@ -11,8 +11,7 @@ mod terminal;
 pub use fault::{ParseFault, fault_at};
 pub use parse::{DEPTH, TOKENS, parse_expr, parse_unary};
 pub use reading::{
-    address_tree, number_in, read_close, read_close_bracket, read_expr, read_index, read_name,
-    read_unary,
+    address_tree, read_close, read_close_bracket, read_expr, read_index, read_name, read_unary,
 };
 pub use symbol::{Keyword, MARKS, Symbol, WORDS, symbol_of};
 pub use terminal::{Spelling, Terminal, terminals};

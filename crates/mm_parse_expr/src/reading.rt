@@ -7,7 +7,7 @@ ghost use Rattle.mm_parse_expr.specs.Reading as spec;
 use crate::symbol::Symbol;
 use crate::terminal::Terminal;
 use mm_goto::{At, Binary, Ident, NoMemory, Unary};
-use mm_reading::Refused;
+use mm_reading::{Refused, keep};
 use mm_tree::{Expr, Node, Word};
 use sqlite_items::Boxed;
 use std::alloc::Global;
@@ -68,16 +68,6 @@ fn looseness(op: Binary) -> u32
         Binary::Or => 7,
         Binary::Land => 8,
         Binary::Lor => 9,
-    }
-}
-
-/// The number that a symbol is, and 0 for any other.
-pub fn number_in(symbol: Symbol) -> i32
-    ensures { result ≡ spec.number_in symbol }
-{
-    match symbol {
-        Symbol::Number(n) => n,
-        _ => 0,
     }
 }
 
@@ -204,8 +194,7 @@ pub fn read_index<'a>(
             rest @ ..,
         ] => {
             let (index, rest) = read_expr(alloc, bound, depth, rest)?;
-            let rest = read_close_bracket(rest)?;
-            Ok((Some(index), rest))
+            keep(Some(index), read_close_bracket(rest))
         }
         _ => Ok((None, ts)),
     }
@@ -221,50 +210,26 @@ fn read_primary<'a>(
 ) -> Result<(Expr, &'a [Terminal<'a>]), Refused>
     ensures { Gives result (spec.primary (spec.lower bound) ts.now) }
 {
-    match ts {
-        [
-            Terminal {
-                symbol: symbol @ Symbol::Number(_),
-                at,
-                ..
-            },
-            rest @ ..,
-        ] => {
-            let node = Node::Number(number_in(*symbol));
-            Ok((Expr { at: *at, node }, rest))
+    let [first, rest @ ..] = ts else {
+        return Err(Refused::Fault(0));
+    };
+    let at = first.at;
+    match first.symbol {
+        Symbol::Number(n) => {
+            let node = Node::Number(n);
+            Ok((Expr { at, node }, rest))
         }
-        [
-            Terminal {
-                symbol: Symbol::Null,
-                at,
-                ..
-            },
-            rest @ ..,
-        ] => {
+        Symbol::Null => {
             let node = Node::Null;
-            Ok((Expr { at: *at, node }, rest))
+            Ok((Expr { at, node }, rest))
         }
-        [
-            Terminal {
-                symbol: Symbol::Name,
-                at,
-                spelling,
-            },
-            rest @ ..,
-        ] => {
+        Symbol::Name => {
             let (index, rest) = read_index(alloc, bound, depth, rest)?;
-            Ok((element_tree(alloc, *at, spelling.text(), index)?, rest))
+            Ok((element_tree(alloc, at, first.spelling.text(), index)?, rest))
         }
-        [
-            Terminal {
-                symbol: Symbol::Open,
-                ..
-            },
-            rest @ ..,
-        ] => {
+        Symbol::Open => {
             let (inner, rest) = read_expr(alloc, bound, depth, rest)?;
-            let rest = read_close(rest)?;
-            Ok((inner, rest))
+            keep(inner, read_close(rest))
         }
         _ => Err(Refused::Fault(ts.len())),
     }
@@ -349,55 +314,17 @@ fn read_open_unary<'a>(
 ) -> Result<(Expr, &'a [Terminal<'a>]), Refused>
     ensures { Gives result (spec.unary (spec.lower bound) ts.now) }
 {
-    match ts {
-        [
-            Terminal {
-                symbol: Symbol::Operator(Binary::Sub),
-                at,
-                ..
-            },
-            rest @ ..,
-        ] => { read_signed(alloc, bound, depth, *at, Unary::Neg, rest) }
-        [
-            Terminal {
-                symbol: Symbol::Operator(Binary::Add),
-                at,
-                ..
-            },
-            rest @ ..,
-        ] => { read_signed(alloc, bound, depth, *at, Unary::Plus, rest) }
-        [
-            Terminal {
-                symbol: Symbol::Not,
-                at,
-                ..
-            },
-            rest @ ..,
-        ] => { read_signed(alloc, bound, depth, *at, Unary::Not, rest) }
-        [
-            Terminal {
-                symbol: Symbol::Flip,
-                at,
-                ..
-            },
-            rest @ ..,
-        ] => { read_signed(alloc, bound, depth, *at, Unary::Flip, rest) }
-        [
-            Terminal {
-                symbol: Symbol::Operator(Binary::Mul),
-                at,
-                ..
-            },
-            rest @ ..,
-        ] => { read_pointed(alloc, bound, depth, *at, rest) }
-        [
-            Terminal {
-                symbol: Symbol::Operator(Binary::And),
-                at,
-                ..
-            },
-            rest @ ..,
-        ] => { read_address(alloc, bound, depth, *at, rest) }
+    let [first, rest @ ..] = ts else {
+        return Err(Refused::Fault(0));
+    };
+    let at = first.at;
+    match first.symbol {
+        Symbol::Operator(Binary::Sub) => read_signed(alloc, bound, depth, at, Unary::Neg, rest),
+        Symbol::Operator(Binary::Add) => read_signed(alloc, bound, depth, at, Unary::Plus, rest),
+        Symbol::Not => read_signed(alloc, bound, depth, at, Unary::Not, rest),
+        Symbol::Flip => read_signed(alloc, bound, depth, at, Unary::Flip, rest),
+        Symbol::Operator(Binary::Mul) => read_pointed(alloc, bound, depth, at, rest),
+        Symbol::Operator(Binary::And) => read_address(alloc, bound, depth, at, rest),
         _ => read_primary(alloc, bound, depth, ts),
     }
 }

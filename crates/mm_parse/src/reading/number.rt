@@ -6,7 +6,7 @@ ghost use Rattle.mm_parse.specs.ProgramGrammar as grammar;
 ghost use Rattle.mm_parse.specs.ProgramReading as spec;
 
 use mm_goto::{At, Binary};
-use mm_parse_expr::{Symbol, Terminal, address_tree, number_in, read_close_bracket, read_name};
+use mm_parse_expr::{Symbol, Terminal, address_tree, read_close_bracket, read_name};
 use mm_reading::{Refused, keep, pair};
 use mm_tree::{Expr, Node};
 use std::alloc::Global;
@@ -23,14 +23,11 @@ fn number_at(at: At, number: i32) -> Expr
 pub fn read_number<'a>(ts: &'a [Terminal<'a>]) -> Result<(i32, &'a [Terminal<'a>]), Refused>
     ensures { Gives result (spec.number ts.now) }
 {
-    match ts {
-        [
-            Terminal {
-                symbol: symbol @ Symbol::Number(_),
-                ..
-            },
-            rest @ ..,
-        ] => Ok((number_in(*symbol), rest)),
+    let [first, rest @ ..] = ts else {
+        return Err(Refused::Fault(0));
+    };
+    match first.symbol {
+        Symbol::Number(n) => Ok((n, rest)),
         _ => Err(Refused::Fault(ts.len())),
     }
 }
@@ -39,15 +36,11 @@ pub fn read_number<'a>(ts: &'a [Terminal<'a>]) -> Result<(i32, &'a [Terminal<'a>
 fn read_number_expr<'a>(ts: &'a [Terminal<'a>]) -> Result<(Expr, &'a [Terminal<'a>]), Refused>
     ensures { Gives result (spec.number_expr ts.now) }
 {
-    match ts {
-        [
-            Terminal {
-                symbol: symbol @ Symbol::Number(_),
-                at,
-                ..
-            },
-            rest @ ..,
-        ] => Ok((number_at(*at, number_in(*symbol)), rest)),
+    let [first, rest @ ..] = ts else {
+        return Err(Refused::Fault(0));
+    };
+    match first.symbol {
+        Symbol::Number(n) => Ok((number_at(first.at, n), rest)),
         _ => Err(Refused::Fault(ts.len())),
     }
 }
@@ -57,25 +50,14 @@ fn read_number_expr<'a>(ts: &'a [Terminal<'a>]) -> Result<(Expr, &'a [Terminal<'
 pub fn read_const<'a>(ts: &'a [Terminal<'a>]) -> Result<(Expr, &'a [Terminal<'a>]), Refused>
     ensures { Gives result (spec.const_at (head ts.now) ts.now) }
 {
-    match ts {
-        [
-            Terminal {
-                symbol: symbol @ Symbol::Number(_),
-                at,
-                ..
-            },
-            rest @ ..,
-        ] => Ok((number_at(*at, number_in(*symbol)), rest)),
-        [
-            Terminal {
-                symbol: Symbol::Operator(Binary::Sub),
-                at,
-                ..
-            },
-            rest @ ..,
-        ] => {
+    let [first, rest @ ..] = ts else {
+        return Err(Refused::Fault(0));
+    };
+    match first.symbol {
+        Symbol::Number(n) => Ok((number_at(first.at, n), rest)),
+        Symbol::Operator(Binary::Sub) => {
             let (number, rest) = read_number(rest)?;
-            Ok((number_at(*at, number.wrapping_neg()), rest))
+            Ok((number_at(first.at, number.wrapping_neg()), rest))
         }
         _ => Err(Refused::Fault(ts.len())),
     }
