@@ -23,25 +23,3 @@ copy_crates() {
     cat > "$copy/crates/$name/src/main.rt"
     cd "$copy/crates/$name"
 }
-
-# text of functions up to the size, to the file
-program_text() {
-    awk -v size="$1" -v name="$2" '
-        function put(text) { printf "%s", text > name; return length(text) }
-        BEGIN {
-            n = put("int x, y;\n")
-            for (i = 0; n < size - 300; i++)
-                n += put("void *p" i "(void *arg) {\n  x = 1;\n  int r = y;\n  if (r == 0 && x != 0x7f) { y = (r << 2) + 31; }\n  /* then */ y = r >= 0; // last\n  return 0;\n}\n")
-        }'
-}
-
-# bytes and milliseconds as a rate
-rate() { awk -v bytes="$1" -v ms="$2" 'BEGIN { printf "%.0f MB/s", bytes / 1000 / (ms > 0 ? ms : 1) }'; }
-
-# how long gcc takes to check the file, in milliseconds
-gcc_check() {
-    local begin
-    begin=$(date +%s%N)
-    timeout 300 gcc -fsyntax-only "$1"
-    echo $((($(date +%s%N) - begin) / 1000000))
-}

@@ -5,10 +5,7 @@
 # asks main for 10,000,000 steps of the longest straight program, 1,024 stores. Both programs read it whole, and then
 # take its entries until main has ended: what is timed is the reading of the schedule, and little of the machine.
 set -eu
-cd "$(dirname "$0")/.."
-
-goto_mm=crates/mm_tool/out/mm_tool
-[ -x "$goto_mm" ] || { echo "build the program first: ./goto-mm --version, then a command" >&2; exit 1; }
+. "$(dirname "$0")/measure.sh"
 work=$(mktemp -d)
 trap 'rm -rf "$work"' EXIT
 
@@ -89,33 +86,7 @@ int main(void) {
 C
 cc -O2 -o "$work/plain" "$work/plain.c"
 
-# best of five, in milliseconds, with the peak of memory in kilobytes
-measure() {
-    local best=
-    for _ in 1 2 3 4 5; do
-        local start end took
-        start=$(date +%s%N)
-        "$@" <"$work/input" >"$work/output" || true
-        end=$(date +%s%N)
-        took=$(((end - start) / 1000000))
-        if [ -z "$best" ] || [ "$took" -lt "$best" ]; then best=$took; fi
-    done
-    echo "$best"
-}
-
-peak() {
-    python3 - "$work/input" "$@" <<'PY'
-import resource, subprocess, sys
-subprocess.run(sys.argv[2:], stdin=open(sys.argv[1]), stdout=subprocess.DEVNULL)
-print(resource.getrusage(resource.RUSAGE_CHILDREN).ru_maxrss)
-PY
-}
-
-entries=$((lines * 8))
-ours=$(measure "$goto_mm" replay --mm sc)
-cat "$work/output"
-theirs=$(measure "$work/plain")
-cat "$work/output"
-echo "goto-mm: $ours ms, $((entries / (ours + 1) * 1000)) entries read a second, $(peak "$goto_mm" replay --mm sc) kB"
-echo "plain C: $theirs ms, $((entries / (theirs + 1) * 1000)) entries read a second, $(peak "$work/plain") kB"
-echo "ratio: $(awk -v a="$ours" -v b="$theirs" 'BEGIN { printf "%.2f", a / (b ? b : 1) }')"
+"$goto_mm" replay --mm sc <"$work/input" || true
+"$work/plain" <"$work/input" || true
+echo "goto-mm: $(measured "$work/input" "$goto_mm" replay --mm sc)"
+echo "plain C: $(measured "$work/input" "$work/plain")"

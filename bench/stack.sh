@@ -6,7 +6,7 @@
 set -euo pipefail
 . "$(dirname "$0")/copy.sh"
 copy_crates stack "mm_lexer mm_parse mm_tree" \
-    mm_goto mm_lexer mm_tree mm_flat mm_reading mm_parse_expr mm_parse <<'MAIN'
+    mm_goto mm_lexer mm_tree mm_reading mm_parse_expr mm_grammar mm_parse <<'MAIN'
 #![tactic(auto)]
 
 use mm_lexer::lex;

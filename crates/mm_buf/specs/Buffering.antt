@@ -1,5 +1,5 @@
 -- A program as it runs with store buffers.
-use Rattle.std.specs.Prelude.{ℕ}
+use Rattle.mm_goto.specs.Bounds.{Bounding}
 use Rattle.mm_goto.specs.declared.model.Model.{Model}
 use Rattle.mm_goto.specs.Listing.{Listing}
 use Rattle.mm_sched.specs.declared.entry.Rules.{Rules}
@@ -10,7 +10,7 @@ use Rattle.mm_sched.specs.State.{State}
 pub record Buffering : Type 0 where
   pub program : Listing
   pub model : Model
-  pub bound : ℕ
+  pub bound : Bounding
   pub state : State
 
 -- the rules that it runs by: each store is made pending

@@ -6,7 +6,7 @@ ghost use Rattle.mm_sched.specs.Sections.{HasNoSection};
 ghost use Rattle.mm_buf.specs.Buffering.{rules_of};
 
 use mm_goto::{Bound, Model, NoMemory, Program};
-use mm_sched::{Entry, Machine, Rules, Stuck};
+use mm_sched::{Entry, Interpreter, Rules, Stuck};
 use std::alloc::Global;
 
 /// A program as it runs with store buffers. Threads are given by their numbers, and main is 0.
@@ -15,7 +15,7 @@ pub struct Buf<'a> {
     program: &'a Program,
     model: Model,
     bound: Bound,
-    machine: Machine,
+    machine: Interpreter,
 }
 
 impl<'a> std::marker::Model for Buf<'a> {
@@ -30,7 +30,7 @@ impl<'a> std::marker::Model for Buf<'a> {
 
     ghost view = { λ b. record { program = b.program.now; model = b.model; bound = b.bound; state = b.machine.state } };
 
-    ghost use Rattle.mm_sched.specs.Possible.{Fits, room_of};
+    ghost use Rattle.mm_sched.specs.Invariant.{Fits, room_of};
     ghost use Rattle.mm_sched.specs.declared.entry.Rules.TheVariants as rules;
 
     ghost invariant = { λ b. record {
@@ -55,7 +55,7 @@ impl Buf<'_> {
         ensures bound { IfOk result (λ buf. buf.bound ≡ bound) }
         ensures state { IfOk result (λ buf. buf.state ≡ initial program.now) }
     {
-        let machine = Machine::new(alloc, &Rules::Buffered(model, bound), program)?;
+        let machine = Interpreter::new(alloc, &Rules::Buffered(model, bound), program)?;
         Ok(Buf {
             program,
             model,

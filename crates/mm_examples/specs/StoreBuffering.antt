@@ -32,12 +32,15 @@ not_local l = applied unary.Not (the_local l)
 
 -- a thread writes its cell and reads the other, and leaves what it has read in a third
 abbrev pub writes_and_reads : ℕ → ℕ → ℕ → List Instr
-writes_and_reads own other left = Store (target.Cell own) (constant (pos 1)) ∷ Load 0 (target.Cell other) ∷ Store (target.Cell left) (the_local 0) ∷ Jump 4 ∷ End ∷ []
+writes_and_reads own other left =
+    Store (target.Cell own) (constant (pos 1)) ∷ Load 0 (target.Cell other) ∷ Store (target.Cell left) (the_local 0) ∷ Jump 4 ∷ End ∷ []
 
 -- main starts both threads, waits for both, and fails 1 where both have read 0
 abbrev pub main_code : List Instr
 main_code =
-    Start 1 ∷ Start 2 ∷ Join 1 ∷ Join 2 ∷ Load 0 (target.Cell 2) ∷ Set 1 (constant (pos 0)) ∷ Branch (is_zero 0) 9 ∷ Load 2 (target.Cell 3) ∷ Set 1 (truth (is_zero 2)) ∷ Assert (not_local 1) 1 ∷ Jump 11 ∷ End ∷ []
+    Start 1 ∷ Start 2 ∷ Join 1 ∷ Join 2
+    ∷ Load 0 (target.Cell 2) ∷ Set 1 (constant (pos 0)) ∷ Branch (is_zero 0) 9 ∷ Load 2 (target.Cell 3)
+    ∷ Set 1 (truth (is_zero 2)) ∷ Assert (not_local 1) 1 ∷ Jump 11 ∷ End ∷ []
 
 -- a thread all of whose code comes from one place
 abbrev pub thread_of : At → ℕ → List Instr → Thread

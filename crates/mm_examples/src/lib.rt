@@ -1,16 +1,10 @@
-//! The worked examples, from the words and the bytes that go in to the status and the bytes that come out.
+//! Examples that cross the crates: inputs that are too long for a case, and programs and schedules that no command shows.
 #![tactic(auto)]
 
 #[cfg(test)]
-mod faults;
-#[cfg(test)]
 mod hostile;
 #[cfg(test)]
-mod instrument;
-#[cfg(test)]
 mod outside;
-#[cfg(test)]
-mod replay;
 #[cfg(test)]
 mod schedules;
 #[cfg(test)]

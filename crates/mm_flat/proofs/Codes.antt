@@ -21,7 +21,8 @@ use Rattle.mm_tree.specs.declared.stmt.StmtNode.TheOpen as part
 use Rattle.mm_tree.specs.declared.stmt.Value.TheVariants as value
 use Rattle.mm_tree.specs.declared.side.Side.{Side}
 use Rattle.mm_tree.specs.declared.side.Side.TheVariants.{Source, Output}
-use Rattle.mm_flat.specs.Flattening.{Placed, placed, Named, number_of, cell_of, Known, Around, statement, named_left, bare_local, with_local, with_label, AreDeclared, IsAssertion, IsValue, IsCode, AreCode}
+use Rattle.mm_flat.specs.Flattening.{Placed, placed, Named, number_of, cell_named, Known, Around, bare_local, with_local, with_label, AreDeclared, IsAssertion, IsValue, IsCode, AreCode}
+use Rattle.mm_tree.specs.Trees.{statement, named_left}
 use Rattle.mm_flat.proofs.Shapes.{part_of, declare_part, assign_part, assert_part, goto_part, label_part, return_part}
 use Rattle.mm_flat.proofs.Values.{value_same}
 
@@ -174,7 +175,7 @@ same_found ls ks x y l k h g e f = cc
 not_both : (ls ks : List Named) (x y : Ident) (l : ℕ) → number_of ls x ≡ Some l → number_of ks y ≡ None → ls ≡ ks → x ≡ y → ⊥
 not_both ls ks x y l h g e f = cc
 
-same_cell : (cells : List Cell) (x y : Ident) (l k : ℕ) → cell_of cells x ≡ Some l → cell_of cells y ≡ Some k → x ≡ y → l ≡ k
+same_cell : (cells : List Cell) (x y : Ident) (l k : ℕ) → cell_named cells x ≡ Some l → cell_named cells y ≡ Some k → x ≡ y → l ≡ k
 same_cell cells x y l k h g f = cc
 
 moved : {cells : List Cell} {locals locals' : List Named} {n m : ℕ} {e : Expr} {is rest : List Placed} {p : Pure} → locals ≡ locals' → IsValue cells locals n e is p m rest → IsValue cells locals' n e is p m rest

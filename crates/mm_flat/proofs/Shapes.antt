@@ -15,7 +15,7 @@ use Rattle.mm_tree.specs.declared.stmt.StmtNode.{StmtNode, out-StmtNode, the_lem
 use Rattle.mm_tree.specs.declared.stmt.StmtNode.TheVariants as stmt
 use Rattle.mm_tree.specs.declared.stmt.StmtNode.TheOpen as part
 use Rattle.mm_tree.specs.declared.stmt.Value.{Value}
-use Rattle.mm_flat.specs.Flattening.{expr, statement}
+use Rattle.mm_tree.specs.Trees.{expr, statement}
 
 -- ---- expressions
 

@@ -12,7 +12,8 @@ use Rattle.mm_tree.specs.declared.expr.Expr.{Expr, out-Expr}
 use Rattle.mm_tree.specs.declared.expr.Node.{Node}
 use Rattle.mm_tree.specs.declared.expr.Node.TheVariants as node
 use Rattle.mm_tree.specs.declared.expr.Node.TheOpen as layer
-use Rattle.mm_flat.specs.Flattening.{Placed, placed, Named, expr, IsValue}
+use Rattle.mm_flat.specs.Flattening.{Placed, placed, Named, IsValue}
+use Rattle.mm_tree.specs.Trees.{expr}
 use Rattle.mm_flat.proofs.Shapes.{layer_of, number_layer, name_layer, bin_layer}
 
 -- ---- equal expressions

@@ -9,7 +9,7 @@ use Rattle.mm_goto.specs.declared.pure.Pure.TheViews.{roll-Pure}
 use Rattle.mm_goto.specs.declared.program.Target.{Target}
 use Rattle.mm_goto.specs.declared.program.Target.TheVariants as target
 use Rattle.mm_goto.specs.declared.program.Instr.{Instr}
-use Rattle.mm_goto.specs.declared.program.Instr.TheVariants.{Set, Load, Store, Input, Branch, Assert, Assume, Add, Cas}
+use Rattle.mm_goto.specs.declared.program.Instr.TheVariants.{Set, Load, Store, Input, Jump, Branch, Assert, Assume, Fence, Lock, Unlock, Add, Cas, Start, Join, AtomBegin, AtomEnd, End}
 use Rattle.mm_goto.specs.Terms.{constant, combined}
 use Rattle.mm_goto.specs.Parts.{divides}
 
@@ -23,29 +23,64 @@ target_exprs (target.Deref e) = e ∷ []
 -- the expressions beside the target's
 abbrev pub value_exprs : Instr → List Pure
 value_exprs (Set l e) = e ∷ []
+value_exprs (Load l t) = []
 value_exprs (Store t e) = e ∷ []
+value_exprs (Input l) = []
+value_exprs (Jump k) = []
 value_exprs (Branch e k) = e ∷ []
 value_exprs (Assert e n) = e ∷ []
 value_exprs (Assume e) = e ∷ []
+value_exprs Fence = []
+value_exprs (Lock m) = []
+value_exprs (Unlock m) = []
 value_exprs (Add l t e) = e ∷ []
 value_exprs (Cas l t e f) = e ∷ f ∷ []
-value_exprs _ = []
+value_exprs (Start u) = []
+value_exprs (Join u) = []
+value_exprs AtomBegin = []
+value_exprs AtomEnd = []
+value_exprs End = []
 
 abbrev pub targets : Instr → List Target
+targets (Set l e) = []
 targets (Load l t) = t ∷ []
 targets (Store t e) = t ∷ []
+targets (Input l) = []
+targets (Jump k) = []
+targets (Branch e k) = []
+targets (Assert e n) = []
+targets (Assume e) = []
+targets Fence = []
+targets (Lock m) = []
+targets (Unlock m) = []
 targets (Add l t e) = t ∷ []
 targets (Cas l t e f) = t ∷ []
-targets _ = []
+targets (Start u) = []
+targets (Join u) = []
+targets AtomBegin = []
+targets AtomEnd = []
+targets End = []
 
 -- the local that it writes
 abbrev pub written_local : Instr → Option ℕ
 written_local (Set l e) = Some l
 written_local (Load l t) = Some l
+written_local (Store t e) = None
 written_local (Input l) = Some l
+written_local (Jump k) = None
+written_local (Branch e k) = None
+written_local (Assert e n) = None
+written_local (Assume e) = None
+written_local Fence = None
+written_local (Lock m) = None
+written_local (Unlock m) = None
 written_local (Add l t e) = Some l
 written_local (Cas l t e f) = Some l
-written_local _ = None
+written_local (Start u) = None
+written_local (Join u) = None
+written_local AtomBegin = None
+written_local AtomEnd = None
+written_local End = None
 
 abbrev pub names_step : ℕ → pure.Pure-F Bool → Bool
 names_step l (pure.Const c) = false
@@ -84,7 +119,8 @@ abbrev pub checked_step : pure.Pure-F Checked → Checked
 checked_step (pure.Const c) = record { expr = roll-Pure (pure.Const c); wants = [] }
 checked_step (pure.Local l) = record { expr = roll-Pure (pure.Local l); wants = [] }
 checked_step (pure.Addr c) = record { expr = roll-Pure (pure.Addr c); wants = [] }
-checked_step (pure.AddrElem first len index) = record { expr = roll-Pure (pure.AddrElem first len index.expr); wants = index.wants ++ is_in_range index.expr len ∷ [] }
+checked_step (pure.AddrElem first len index) =
+    record { expr = roll-Pure (pure.AddrElem first len index.expr); wants = index.wants ++ is_in_range index.expr len ∷ [] }
 checked_step (pure.Un op x) = record { expr = roll-Pure (pure.Un op x.expr); wants = x.wants }
 checked_step (pure.Bin op x y) = record { expr = roll-Pure (pure.Bin op x.expr y.expr); wants = wants_of op x y }
 checked_step (pure.Cond c x y) = record { expr = roll-Pure (pure.Cond c.expr x.expr y.expr); wants = c.wants ++ x.wants ++ y.wants }
@@ -119,7 +155,10 @@ abbrev pub timed_bin : Binary → Pure → Timed → Timed → Timed
 timed_bin op whole x y = record { expr = whole; late = x.late ++ y.late ++ late_behind op whole y.expr }
 
 abbrev pub timed_cond : Pure → Timed → Timed → Timed → Timed
-timed_cond whole c x y = record { expr = whole; late = c.late ++ x.late ++ y.late ++ record { whole = whole; part = x.expr } ∷ record { whole = whole; part = y.expr } ∷ [] }
+timed_cond whole c x y = record {
+  expr = whole;
+  late = c.late ++ x.late ++ y.late ++ record { whole = whole; part = x.expr } ∷ record { whole = whole; part = y.expr } ∷ [];
+}
 
 abbrev pub timed_step : pure.Pure-F Timed → Timed
 timed_step (pure.Const c) = record { expr = roll-Pure (pure.Const c); late = [] }

@@ -21,4 +21,7 @@ IsSuccessor code j k = leads (slice_get code j)
 -- a flow path leads from a place to another: the places on it before the last, each of which has the next as a successor
 pub data IsFlow (code : List Instr) : ℕ → List ℕ → ℕ → Type 0 where
   here : {k : ℕ} → IsFlow code k [] k
-  on : {j k l : ℕ} {ks : List ℕ} → IsSuccessor code j k → IsFlow code k ks l → IsFlow code j (j ∷ ks) l
+  on : {j k l : ℕ} {ks : List ℕ}
+      → IsSuccessor code j k
+      → IsFlow code k ks l
+      → IsFlow code j (j ∷ ks) l

@@ -10,10 +10,10 @@ use Rattle.mm_goto.specs.declared.pure.Pure.TheFolds.{fold-Pure}
 use Rattle.mm_goto.specs.declared.program.Target.{Target}
 use Rattle.mm_goto.specs.declared.program.Target.TheVariants as target
 use Rattle.mm_goto.specs.declared.program.Instr.{Instr}
-use Rattle.mm_goto.specs.declared.program.Instr.TheVariants.{Set, Load, Store, Input, Branch, Assert, Assume, Add, Cas}
+use Rattle.mm_goto.specs.declared.program.Instr.TheVariants.{Set, Load, Store, Input, Jump, Branch, Assert, Assume, Fence, Lock, Unlock, Add, Cas, Start, Join, AtomBegin, AtomEnd, End}
 use Rattle.mm_goto.specs.declared.program.Cell.{Cell}
 use Rattle.mm_goto.specs.Listing.{Listing}
-use Rattle.mm_goto.specs.Locals.{rows_of}
+use Rattle.mm_goto.specs.Locals.{Row, rows_of}
 use Rattle.mm_goto.specs.Value.{is_zero}
 
 -- what an expression can be called: the number 0 is both
@@ -73,16 +73,28 @@ IsInstrTyped p pointers (Set l e) = IsOf pointers e (pointers l)
 IsInstrTyped p pointers (Load l t) = IsTargetOf p pointers t (pointers l)
 IsInstrTyped p pointers (Store t e) = (b : Bool) × IsTargetOf p pointers t b × IsOf pointers e b
 IsInstrTyped p pointers (Input l) = pointers l ≡ false
+IsInstrTyped p pointers (Jump k) = Unit {0}
 IsInstrTyped p pointers (Branch e k) = IsTrue (is_typed (kinds_of pointers e))
 IsInstrTyped p pointers (Assert e n) = IsTrue (is_typed (kinds_of pointers e))
 IsInstrTyped p pointers (Assume e) = IsTrue (is_typed (kinds_of pointers e))
+IsInstrTyped p pointers Fence = Unit {0}
+IsInstrTyped p pointers (Lock m) = Unit {0}
+IsInstrTyped p pointers (Unlock m) = Unit {0}
 IsInstrTyped p pointers (Add l t e) = (pointers l ≡ false) × IsTargetOf p pointers t false × IsOf pointers e false
 IsInstrTyped p pointers (Cas l t e f) = (pointers l ≡ false) × IsTargetOf p pointers t false × IsOf pointers e false × IsOf pointers f false
-IsInstrTyped p pointers _ = Unit {0}
+IsInstrTyped p pointers (Start u) = Unit {0}
+IsInstrTyped p pointers (Join u) = Unit {0}
+IsInstrTyped p pointers AtomBegin = Unit {0}
+IsInstrTyped p pointers AtomEnd = Unit {0}
+IsInstrTyped p pointers End = Unit {0}
+
+-- each cell of the row holds an int
+abbrev pub IsRowOfInts : Listing → Row → Type 0
+IsRowOfInts p row = (k : ℕ) → k < row.len → IsSomeAnd (slice_get p.cells (row.first + k)) (λ cell. cell.pointer ≡ false)
 
 -- the addresses in the expression are those of cells that hold ints
 abbrev pub NamesInts : Listing → Pure → Type 0
-NamesInts p e = All (λ row. (k : ℕ) → k < row.len → IsSomeAnd (slice_get p.cells (row.first + k)) (λ cell. cell.pointer ≡ false)) (rows_of e)
+NamesInts p e = All (IsRowOfInts p) (rows_of e)
 
 -- the start value fits the cell
 abbrev pub IsCellTyped : Cell → Type 0

@@ -1,8 +1,10 @@
+pub mod Bounds
 pub mod Checks
 pub mod Flow
 pub mod Kinds
 pub mod Listing
 pub mod Locals
+pub mod Models
 pub mod Names
 pub mod Parts
 pub mod Place

@@ -1,5 +1,5 @@
 -- Places in a text: a line ends at a newline, and a column counts characters.
-use Rattle.std.specs.Prelude.{ℕ, Bool, ◌+◌, ◌&&◌, ◌==◌, nat_le, nat_lt, if◌then◌else◌, List}
+use Rattle.std.specs.Prelude.{ℕ, ◌+◌, ◌==◌, if◌then◌else◌, List}
 use Rattle.std.specs.List.{fold}
 use Rattle.mm_goto.specs.declared.ident.At.{At}
 
@@ -7,14 +7,10 @@ use Rattle.mm_goto.specs.declared.ident.At.{At}
 abbrev pub start : At
 start = record { line = 1; column = 1 }
 
--- the byte goes on with a character that was begun
-abbrev pub continues : ℕ → Bool
-continues byte = nat_le 128 byte && nat_lt byte 192
-
--- the place behind a byte of UTF-8
+-- the place behind a character
 abbrev pub past : At → ℕ → At
-past at byte = if byte == 10 then record { line = at.line + 1; column = 1 } else if continues byte then at else record at { column = at.column + 1 }
+past at c = if c == 10 then record { line = at.line + 1; column = 1 } else record at { column = at.column + 1 }
 
--- the place behind these bytes, which are the front of a text
+-- the place behind these characters, which are the front of a text
 abbrev pub place_after : List ℕ → At
 place_after = fold past start

@@ -1,6 +1,6 @@
 -- What flattening gives for a source. The analyses and the weaving of programs rest on it, and not on how a source is
 -- flattened.
-use Rattle.std.specs.Prelude.{◌≡◌, ◌≢◌, ◌⊎◌, ℕ, pos, negsuc, ◌+◌, ◌-◌, ◌<◌, ◌≤◌, Bool, true, false, List, [], ◌∷◌, ◌++◌, All, length, sum_by, slice_get, Option, Some, None, IsSomeAnd, IfSome}
+use Rattle.std.specs.Prelude.{◌≡◌, ◌≢◌, ◌⊎◌, ℕ, pos, negsuc, ◌+◌, ◌-◌, ◌<◌, ◌≤◌, Bool, true, false, ◌≤ℤ◌, List, [], ◌∷◌, ◌++◌, All, length, sum_by, slice_get, Option, Some, None, IsSomeAnd, IfSome}
 use Rattle.std.specs.List.{flat_map}
 use Rattle.mm_goto.specs.declared.ident.Ident.{Ident}
 use Rattle.mm_goto.specs.declared.program.Cell.{Cell}
@@ -43,8 +43,13 @@ KeepsCheck code check k = IfSome (slice_get code k) (λ i. IfSome (written_local
 
 -- the check stands somewhere on the path, and behind it no local of the check is written
 pub data Passes (code : List Instr) (check : Pure) : List ℕ → Type 0 where
-  here : {k : ℕ} {behind : List ℕ} → IsCheckAt code check k → All (KeepsCheck code check) behind → Passes code check (k ∷ behind)
-  later : {k : ℕ} {behind : List ℕ} → Passes code check behind → Passes code check (k ∷ behind)
+  here : {k : ℕ} {behind : List ℕ}
+      → IsCheckAt code check k
+      → All (KeepsCheck code check) behind
+      → Passes code check (k ∷ behind)
+  later : {k : ℕ} {behind : List ℕ}
+      → Passes code check behind
+      → Passes code check (k ∷ behind)
 
 -- every flow path from place 0 to the instruction at place k passes each check that it wants
 abbrev pub IsGuarded : List Instr → ℕ → Instr → Type 0
@@ -60,7 +65,9 @@ is_start_or_join _ = false
 -- A jump from place j to place k that is not the last passes no Start and no Join: from before one it leads to it at most,
 -- and from behind one neither to it nor to before it.
 abbrev pub PassesNone : List Instr → ℕ → ℕ → Type 0
-PassesNone code j k = (k + 1 ≡ length code) ⊎ ((m : ℕ) (i : Instr) → ((j < m) × (m < k)) ⊎ ((k ≤ m) × (m < j)) → slice_get code m ≡ Some i → is_start_or_join i ≡ false)
+PassesNone code j k =
+    (k + 1 ≡ length code)
+    ⊎ ((m : ℕ) (i : Instr) → ((j < m) × (m < k)) ⊎ ((k ≤ m) × (m < j)) → slice_get code m ≡ Some i → is_start_or_join i ≡ false)
 
 abbrev pub JumpPassesNone : List Instr → ℕ → Instr → Type 0
 JumpPassesNone code j (Jump k) = PassesNone code j k
@@ -75,20 +82,26 @@ started_by _ = None
 pub record StartsInOrder (p : Listing) : Type 0 where
   pub order : (j k u v : ℕ) → j < k → slice_get (code_of p 0) j ≡ Some (Start u) → slice_get (code_of p 0) k ≡ Some (Start v) → u < v
   pub joins : (j k u : ℕ) → slice_get (code_of p 0) j ≡ Some (Start u) → slice_get (code_of p 0) k ≡ Some (Join u) → j < k
-  pub not_main : (k : ℕ) → (slice_get (code_of p 0) k ≢ Some (Start 0)) × (slice_get (code_of p 0) k ≢ Some (Join 0))
   pub jumps : (j : ℕ) (i : Instr) → slice_get (code_of p 0) j ≡ Some i → JumpPassesNone (code_of p 0) j i
 
 -- ---- names and arrays
 
 -- two different cells of one name are two elements of one array
 pub record AreApart (p : Listing) : Type 0 where
-  pub cells : (c d : ℕ) (a b : Cell) → slice_get p.cells c ≡ Some a → slice_get p.cells d ≡ Some b → a.name ≡ b.name → (c ≡ d) ⊎ ((a.index ≢ None) × (b.index ≢ None) × (a.index ≢ b.index))
+  pub cells : (c d : ℕ) (a b : Cell)
+      → slice_get p.cells c ≡ Some a
+      → slice_get p.cells d ≡ Some b
+      → a.name ≡ b.name
+      → (c ≡ d) ⊎ ((a.index ≢ None) × (b.index ≢ None) × (a.index ≢ b.index))
   pub mutexes : (m n : ℕ) (x : Ident) → slice_get p.mutexes m ≡ Some x → slice_get p.mutexes n ≡ Some x → m ≡ n
   pub neither : (c m : ℕ) (a : Cell) (x : Ident) → slice_get p.cells c ≡ Some a → slice_get p.mutexes m ≡ Some x → a.name ≢ x
 
 -- the elements of an array stand together in the order of their indexes, and are ints
 pub record HasWholeArrays (p : Listing) : Type 0 where
-  pub before : (c i : ℕ) (a : Cell) → slice_get p.cells c ≡ Some a → a.index ≡ Some (i + 1) → (1 ≤ c) × IsSomeAnd (slice_get p.cells (c - 1)) (λ b. (b.name ≡ a.name) × (b.index ≡ Some i))
+  pub before : (c i : ℕ) (a : Cell)
+      → slice_get p.cells c ≡ Some a
+      → a.index ≡ Some (i + 1)
+      → (1 ≤ c) × IsSomeAnd (slice_get p.cells (c - 1)) (λ b. (b.name ≡ a.name) × (b.index ≡ Some i))
   pub ints : (c i : ℕ) (a : Cell) → slice_get p.cells c ≡ Some a → a.index ≡ Some i → a.pointer ≡ false
 
 -- the row is a whole array
@@ -136,6 +149,7 @@ target_cells _ = []
 
 pub record IsSourceInstr (p : Listing) (code : List Instr) (k : ℕ) (i : Instr) : Type 0 where
   pub sections : is_section i ≡ false
+  pub not_main : (i ≢ Start 0) × (i ≢ Join 0)
   pub ints : All (NamesInts p) (exprs_of i)
   pub numbers : All (λ e. All (λ z. (n : ℕ) × (z ≡ pos n)) (numbers e)) (exprs_of i)
   pub arrays : All (IsWholeArray p) (flat_map target_rows (targets i) ++ flat_map arrays_of (exprs_of i))
@@ -146,11 +160,11 @@ pub record IsSourceInstr (p : Listing) (code : List Instr) (k : ℕ) (i : Instr)
   pub size : (target_nodes i ≤ 410) × All (λ e. target_nodes i + nodes e ≤ 410) (value_exprs i)
   pub levels : All (λ e. levels e ≤ 210) (exprs_of i)
 
--- a cell's start value fits it, is no least int, and takes the addresses of whole arrays and of cells that are no elements, which
+-- a cell's start value fits it, is above the least int, and takes the addresses of whole arrays and of cells that are no elements, which
 -- hold ints
 pub record IsSourceCell (p : Listing) (cell : Cell) : Type 0 where
   pub typed : IsCellTyped cell
-  pub numbers : All (λ z. z ≢ negsuc 2147483647) (numbers cell.init)
+  pub numbers : All (λ z. negsuc 2147483646 ≤ℤ z) (numbers cell.init)
   pub ints : NamesInts p cell.init
   pub arrays : All (IsWholeArray p) (arrays_of cell.init)
   pub singles : All (IsSingle p) (addressed cell.init)
@@ -159,8 +173,13 @@ pub record IsSourcelike (p : Listing) : Type 0 where
   pub valid : IsValid p
   pub limits : IsWithinSource p
   pub ends : All (λ t. slice_get t.code (length t.code - 1) ≡ Some End) p.threads
-  pub each : (t k : ℕ) (thread : Thread) (i : Instr) → slice_get p.threads t ≡ Some thread → slice_get thread.code k ≡ Some i → IsSourceInstr p thread.code k i
-  pub typed : (t : ℕ) (thread : Thread) → slice_get p.threads t ≡ Some thread → (pointers : ℕ → Bool) × All (IsInstrTyped p pointers) thread.code
+  pub each : (t k : ℕ) (thread : Thread) (i : Instr)
+      → slice_get p.threads t ≡ Some thread
+      → slice_get thread.code k ≡ Some i
+      → IsSourceInstr p thread.code k i
+  pub typed : (t : ℕ) (thread : Thread)
+      → slice_get p.threads t ≡ Some thread
+      → (pointers : ℕ → Bool) × All (IsInstrTyped p pointers) thread.code
   pub cells : All (IsSourceCell p) p.cells
   pub cell_names : All (λ cell. IsDeclarable cell.name) p.cells
   pub mutex_names : All IsDeclarable p.mutexes

@@ -1,5 +1,6 @@
 -- Which programs are valid: each number in them is in range, and main starts each other thread once.
-use Rattle.std.specs.Prelude.{◌≡◌, ℕ, ℤ, pos, ◌+◌, ◌-◌, ◌<◌, ◌≤◌, ◌==◌, nat_lt, Bool, true, false, IsTrue, Option, Some, None, IsSomeAnd, List, [], All, length, slice_get, count_by, sum_by}
+use Rattle.std.specs.Prelude.{◌≡◌, ℕ, ℤ, pos, ◌+◌, ◌-◌, ◌^◌, ◌<◌, ◌≤◌, ◌==◌, nat_lt, Bool, true, false, IsTrue, Option, Some, None, IsSomeAnd, List, [], All, length, slice_get, count_by, sum_by, FitsSigned}
+use Rattle.std.specs.Int.{w32}
 use Rattle.mm_goto.specs.declared.limits.TheConstants.{MAX_THREADS, MAX_INSTRUCTIONS, MAX_LOCALS, MAX_MUTEXES, MAX_CELLS}
 use Rattle.mm_goto.specs.declared.pure.Pure.{Pure}
 use Rattle.mm_goto.specs.declared.pure.Pure.TheOpen as pure
@@ -12,6 +13,11 @@ use Rattle.mm_goto.specs.declared.program.Cell.{Cell}
 use Rattle.mm_goto.specs.declared.program.Thread.{Thread}
 use Rattle.mm_goto.specs.Listing.{Listing}
 use Rattle.mm_goto.specs.Locals.{Row, local_bound, rows_of}
+use Rattle.mm_goto.specs.Parts.{numbers}
+
+-- an int has 32 bits
+abbrev pub IsInt : ℤ → Type 0
+IsInt = FitsSigned w32
 
 -- the second cell is the element behind the first in one array
 abbrev pub IsNextElement : Cell → Cell → Type 0
@@ -21,12 +27,15 @@ IsNextElement a b = (a.name ≡ b.name) × IsSomeAnd a.index (λ i. b.index ≡ 
 pub record IsRow (cells : List Cell) (row : Row) : Type 0 where
   pub some : 1 ≤ row.len
   pub within : row.first + row.len ≤ length cells
-  pub together : (k : ℕ) → k + 1 < row.len → IsSomeAnd (slice_get cells (row.first + k)) (λ a. IsSomeAnd (slice_get cells (row.first + k + 1)) (IsNextElement a))
+  pub together : (k : ℕ)
+      → k + 1 < row.len
+      → IsSomeAnd (slice_get cells (row.first + k)) (λ a. IsSomeAnd (slice_get cells (row.first + k + 1)) (IsNextElement a))
 
--- the expression names locals of the thread, and addresses of cells or arrays
+-- the expression names locals of the thread, addresses of cells or arrays, and ints of 32 bits
 pub record IsPureIn (p : Listing) (t : Thread) (e : Pure) : Type 0 where
   pub locals : local_bound e ≤ t.locals
   pub cells : All (IsRow p.cells) (rows_of e)
+  pub ints : All IsInt (numbers e)
 
 abbrev pub IsTargetIn : Listing → Thread → Target → Type 0
 IsTargetIn p t (target.Cell c) = c < length p.cells
@@ -41,7 +50,7 @@ IsInstrIn p t (Store target e) = IsTargetIn p t target × IsPureIn p t e
 IsInstrIn p t (Input l) = l < t.locals
 IsInstrIn p t (Jump k) = k < length t.code
 IsInstrIn p t (Branch e k) = IsPureIn p t e × (k < length t.code)
-IsInstrIn p t (Assert e n) = IsPureIn p t e
+IsInstrIn p t (Assert e n) = IsPureIn p t e × (n < 2 ^ 32)
 IsInstrIn p t (Assume e) = IsPureIn p t e
 IsInstrIn p t Fence = Unit {0}
 IsInstrIn p t (Lock m) = m < length p.mutexes
@@ -116,6 +125,7 @@ start_kind = fold-Pure StartKind start_step
 pub record IsCellIn (cells : List Cell) (cell : Cell) : Type 0 where
   pub kind : IsTrue (start_kind cell.init).fits
   pub rows : All (IsRow cells) (rows_of cell.init)
+  pub ints : All IsInt (numbers cell.init)
 
 -- each number in the program is in range, and main starts each other thread once
 pub record IsValid (p : Listing) : Type 0 where

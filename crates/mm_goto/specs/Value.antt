@@ -1,6 +1,7 @@
 -- The value of an expression over a thread's locals. ISO C's operators, on ints of 32 bits that wrap: a quotient is
 -- cut toward zero, the least int divided by -1 gives the least int and the remainder 0, a shift counts modulo 32, and
--- a shift to the right keeps the sign. A division by zero gives 0: no run of a program meets one.
+-- a shift to the right keeps the sign. A division by zero gives 0; in what flattening gives for a source an assertion that the
+-- divisor is not 0 stands before each.
 use Rattle.std.specs.Prelude.{ℕ, ◌+◌, ◌%◌, ◌^◌, ℤ, pos, List, if◌then◌else◌, ◌==◌, Bool, int_lt, not, ◌&&◌, ◌||◌, slice_index_or}
 use Rattle.std.specs.Int.{w32, int_wrapping_add, int_wrapping_sub, int_wrapping_mul, int_wrapping_div, int_wrapping_neg, int_shl, int_shr, int_bit_and, int_bit_or, int_bit_xor, int_bit_not, cast_signed, cast_unsigned}
 use Rattle.std.specs.Int.RustNames.{int_rem}

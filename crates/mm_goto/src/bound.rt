@@ -1,4 +1,5 @@
 ghost use Rattle.std.specs.Prelude.{◌≡◌, ◌≤◌, ◌↔◌, IsSome, IfSome};
+ghost use Rattle.mm_goto.specs.Bounds.{uniform, bound_of, greatest};
 
 use std::marker::Model;
 
@@ -9,9 +10,10 @@ pub struct Bound {
 }
 
 impl Model for Bound {
-    ghost use Rattle.std.specs.Prelude.{◌≤◌, ℕ};
+    ghost use Rattle.std.specs.Prelude.{◌≤◌};
+    ghost use Rattle.mm_goto.specs.Bounds.{Bounding};
 
-    ghost Value = { ℕ };
+    ghost Value = { Bounding };
 
     ghost view = { λ bound. bound.number };
 
@@ -24,7 +26,7 @@ impl Bound {
     /// The bound of this number, where it is 1 to 8.
     pub fn new(n: u32) -> Option<Bound>
         ensures within { IsSome result ↔ ((1 ≤ n) × (n ≤ 8)) }
-        ensures number { IfSome result (λ bound. bound ≡ n) }
+        ensures number { IfSome result (λ bound. bound ≡ uniform n) }
     {
         if 1 <= n && n <= 8 {
             Some(Bound { number: n })
@@ -33,9 +35,9 @@ impl Bound {
         }
     }
 
-    /// The number.
+    /// The greatest number that holds for a thread.
     pub fn get(self) -> u32
-        ensures number { result ≡ self }
+        ensures number { result ≡ greatest self }
         ensures at_least { 1 ≤ result }
         ensures at_most { result ≤ 8 }
     {
@@ -44,11 +46,10 @@ impl Bound {
 
     /// The number that holds for the thread `t`, which is `get` for every thread.
     pub fn of(self, t: u32) -> u32
-        ensures number { result ≡ self }
+        ensures number { result ≡ bound_of self t }
         ensures at_least { 1 ≤ result }
         ensures at_most { result ≤ 8 }
     {
-        let _ = t;
         self.number
     }
 }

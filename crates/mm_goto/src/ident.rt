@@ -35,19 +35,17 @@ impl At {
         At { line: 1, column: 1 }
     }
 
-    /// The place behind a byte of UTF-8 that stands here. Only the first byte of a character counts.
-    pub fn past(self, byte: u8) -> At
+    /// The place behind a character that stands here.
+    pub fn past(self, c: char) -> At
         requires line { self.line + 1 < 2 ^ 32 }
         requires column { self.column + 1 < 2 ^ 32 }
-        ensures { result ≡ past self byte }
+        ensures { result ≡ past self c }
     {
-        if byte == b'\n' {
+        if c == '\n' {
             At {
                 line: self.line + 1,
                 column: 1,
             }
-        } else if 128 <= byte && byte < 192 {
-            self
         } else {
             At {
                 line: self.line,

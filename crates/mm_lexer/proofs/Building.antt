@@ -1,5 +1,5 @@
 -- How a text that is written piece by piece is read: a law for each way to go on.
-use Rattle.std.proofs.Common.{◌≡◌, ℕ, zero, suc, pos, ◌+◌, ◌<◌, ◌≤◌, ◌^◌, Bool, true, false, not, ◌&&◌, ◌==◌, cond, nat_lt, nat_le, List, [], ◌∷◌, ◌++◌, length, take, drop, get_or, slice_index, Some, refl, sym, ◌∙◌, ap, subst, arith, add-zero, lit<, length-append, append_assoc}
+use Rattle.std.proofs.Common.{◌≡◌, ℕ, zero, suc, pos, ◌+◌, ◌<◌, ◌≤◌, ◌^◌, Bool, true, false, not, ◌&&◌, ◌||◌, ◌==◌, cond, nat_lt, nat_le, List, [], ◌∷◌, ◌++◌, length, take, drop, get_or, slice_index, Some, refl, sym, ◌∙◌, ap, subst, arith, add-zero, lit<, length-append, append_assoc}
 use Rattle.std.specs.Prelude.{option_map}
 use Rattle.std.specs.Char.{is_ascii_digit, is_digit, digit_value}
 use Rattle.std.specs.List.{list_all, prefix_len}
@@ -75,7 +75,7 @@ head_keeps (c ∷ cs) a b k e = head_keeps cs _ _ (step (c == 10) (is_blank c)) 
         none true h = cc
         none false h = cc
 
-    step : (n w : Bool) → cond n true (a && w) ≡ true → cond n true (b && w) ≡ true
+    step : (n w : Bool) → (n || (a && w)) ≡ true → (n || (b && w)) ≡ true
     step true w h = refl
     step false w h = both_so w k h
 

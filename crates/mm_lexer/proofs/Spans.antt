@@ -1,6 +1,7 @@
 -- The tokens of a text are its slices, in order, and say what its lexemes say.
-use Rattle.std.proofs.Common.{◌≡◌, ◌≢◌, ℕ, zero, suc, ◌+◌, ◌-◌, ◌≤◌, Bool, true, false, cond, ◌&&◌, ◌==◌, List, [], ◌∷◌, ◌++◌, All, map, length, take, drop, refl, sym, ◌∙◌, ap, subst, arith, length-append, length-drop, append_assoc}
-use Rattle.std.specs.List.{AllByRecursion}
+use Rattle.std.proofs.Common.{◌≡◌, ◌≢◌, ℕ, zero, suc, ◌+◌, ◌-◌, ◌≤◌, Bool, true, false, cond, ◌&&◌, ◌||◌, ◌==◌, List, [], ◌∷◌, ◌++◌, All, map, length, take, drop, refl, sym, ◌∙◌, ap, subst, arith, length-append, length-drop, append_assoc}
+use Rattle.std.specs.List.{AllByRecursion, fold}
+use Rattle.mm_goto.specs.Place as place
 use Rattle.std.proofs.lemmas.List.Elements.{All-from_recursion}
 use Rattle.std.proofs.lemmas.List.{take-append-drop}
 use Rattle.std.proofs.Math.Seq.{drop-append_seam, take-append_seam}
@@ -27,16 +28,9 @@ use Rattle.mm_lexer.proofs.Unique.{tokens_unique, tokens_or_fault}
 
 -- ---- offsets
 
-at_newline : (c : ℕ) → (c == 10) ≡ true → length (encode_utf8 c) ≡ 1
-at_newline c h = let e : c ≡ 10 = grind (arith, nat_tests) in ap (λ d. length (encode_utf8 d)) e ∙ length-encode 10
-
 past-offset : (p : Place) (c : ℕ) → (past p c).offset ≡ p.offset + length (encode_utf8 c)
 unfolding past
-past-offset p c = by_test (c == 10) _ _ (λ h. ap (λ n. p.offset + n) (sym (at_newline c h))) (ap (λ n. p.offset + n) (sym (length-encode c)))
-  where
-    by_test : (b : Bool) (x y : Place) → (b ≡ true → x.offset ≡ p.offset + length (encode_utf8 c)) → y.offset ≡ p.offset + length (encode_utf8 c) → (cond b x y).offset ≡ p.offset + length (encode_utf8 c)
-    by_test true x y h k = h refl
-    by_test false x y h k = k
+past-offset p c = ap (λ n. p.offset + n) (sym (length-encode c))
 
 past_all-offset : (p : Place) (word : List ℕ) → (past_all p word).offset ≡ p.offset + length (encode_utf8_all word)
 past_all-offset p [] = omega arith
@@ -159,13 +153,21 @@ all_in_order text ts a = reads_in_order 0 a.read (omega arith)
 
 -- ---- lexemes
 
-field_of : (b : Bool) (x y : Place) → (cond b x y).is_head ≡ cond b x.is_head y.is_head
-field_of true x y = refl
-field_of false x y = refl
-
-past-head : (p : Place) (c : ℕ) → (past p c).is_head ≡ cond (c == 10) true (p.is_head && is_blank c)
+past-head : (p : Place) (c : ℕ) → (past p c).is_head ≡ (c == 10) || (p.is_head && is_blank c)
 unfolding past
-past-head p c = field_of (c == 10) _ _
+past-head p c = refl
+
+past-place : (p : Place) (c : ℕ) → (past p c).at ≡ place.past p.at c
+unfolding past
+past-place p c = refl
+
+past_all-place : (p : Place) (cs : List ℕ) → (past_all p cs).at ≡ fold place.past p.at cs
+past_all-place p [] = refl
+past_all-place p (c ∷ cs) = past_all-place (past p c) cs ∙ ap (λ at. fold place.past at cs) (past-place p c)
+
+-- the place behind all characters of a text
+pub place_of_all : (cs : List ℕ) → (past_all start cs).at ≡ place.place_after cs
+place_of_all cs = past_all-place start cs
 
 past_all-head : (p : Place) (word : List ℕ) → (past_all p word).is_head ≡ head_after p.is_head word
 past_all-head p [] = refl

@@ -17,7 +17,10 @@ use Rattle.mm_lexer.specs.Marks.{mark_len}
 
 -- hexadecimal after 0x or 0X, octal after 0, else decimal
 abbrev pub base_of : List ℕ → Base
-base_of cs = if slice_index cs 0 == 48 then (if (slice_index cs 1 == 120) || (slice_index cs 1 == 88) then Hexadecimal else Octal) else Decimal
+base_of cs =
+    if slice_index cs 0 == 48
+    then (if (slice_index cs 1 == 120) || (slice_index cs 1 == 88) then Hexadecimal else Octal)
+    else Decimal
 
 -- how many characters stand before the digits: 0x or none, since the 0 of an octal number is one of its digits
 abbrev pub lead_len : Base → ℕ

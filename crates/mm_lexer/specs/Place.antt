@@ -1,21 +1,20 @@
 -- How far a text has been read. A place is at the head of its line where only blanks and tabs stand before it there, and
 -- so where its line begins outside a comment: a line that begins in one has the comment's end in it.
-use Rattle.std.specs.Prelude.{ℕ, ◌+◌, ◌≤◌, true, ◌&&◌, ◌==◌, if◌then◌else◌, List, [], ◌∷◌}
+use Rattle.std.specs.Prelude.{ℕ, ◌+◌, ◌≤◌, true, ◌&&◌, ◌||◌, ◌==◌, List, [], ◌∷◌}
 use Rattle.std.specs.Char.{len_utf8}
 use Rattle.std.specs.Str.{chars}
 use Rattle.mm_goto.specs.declared.ident.At.{At}
+use Rattle.mm_goto.specs.Place as place
 use Rattle.mm_lexer.specs.declared.place.Place.{Place}
 use Rattle.mm_lexer.specs.Class.{is_blank}
 
 -- where a text begins
 abbrev pub start : Place
-start = record { offset = 0; at = record { line = 1; column = 1 }; is_head = true }
+start = record { offset = 0; at = place.start; is_head = true }
 
--- the place behind a character: a newline ends the line, and a column counts characters
+-- the place behind a character: a newline begins a line
 unfoldable pub past : Place → ℕ → Place
-past p c = if c == 10
-    then record { offset = p.offset + 1; at = record { line = p.at.line + 1; column = 1 }; is_head = true }
-    else record { offset = p.offset + len_utf8 c; at = record { line = p.at.line; column = p.at.column + 1 }; is_head = p.is_head && is_blank c }
+past p c = record { offset = p.offset + len_utf8 c; at = place.past p.at c; is_head = (c == 10) || (p.is_head && is_blank c) }
 
 -- the place behind these characters
 abbrev pub past_all : Place → List ℕ → Place
@@ -24,7 +23,7 @@ past_all p (c ∷ cs) = past_all (past p c) cs
 
 -- one behind the last character of a text
 abbrev pub end_of : List ℕ → At
-end_of text = (past_all start (chars text)).at
+end_of text = place.place_after (chars text)
 
 -- n bytes more are within the bound of a text
 pub record HasRoom (p : Place) (n : ℕ) : Type 0 where

@@ -43,8 +43,15 @@ AreInOrder from (t ∷ ts) = (from ≤ t.start) × AreInOrder t.end ts
 -- From a place on, the characters of a text up to the rest are separators and these tokens.
 pub data Reads : Place → List ℕ → List Token → Place → List ℕ → Type 0 where
   none : {p : Place} {cs : List ℕ} → Reads p cs [] p cs
-  gap : {p q : Place} {cs rest : List ℕ} {ts : List Token} {n : ℕ} → piece_at p.is_head cs ≡ piece.Gap n → Reads (past_all p (take n cs)) (drop n cs) ts q rest → Reads p cs ts q rest
-  token : {p q : Place} {cs rest : List ℕ} {t : Token} {ts : List Token} {kind : TokenKind} {n : ℕ} → piece_at p.is_head cs ≡ piece.Token kind n → t ≡ token_at kind p (take n cs) → Reads (past_all p (take n cs)) (drop n cs) ts q rest → Reads p cs (t ∷ ts) q rest
+  gap : {p q : Place} {cs rest : List ℕ} {ts : List Token} {n : ℕ}
+      → piece_at p.is_head cs ≡ piece.Gap n
+      → Reads (past_all p (take n cs)) (drop n cs) ts q rest
+      → Reads p cs ts q rest
+  token : {p q : Place} {cs rest : List ℕ} {t : Token} {ts : List Token} {kind : TokenKind} {n : ℕ}
+      → piece_at p.is_head cs ≡ piece.Token kind n
+      → t ≡ token_at kind p (take n cs)
+      → Reads (past_all p (take n cs)) (drop n cs) ts q rest
+      → Reads p cs (t ∷ ts) q rest
 
 -- the text is separators and these tokens
 pub record AreTokens (text : List ℕ) (ts : List Token) : Type 0 where

@@ -23,7 +23,7 @@ pub fn start() -> Place
 {
     Place {
         offset: 0,
-        at: At { line: 1, column: 1 },
+        at: At::start(),
         is_head: true,
     }
 }
@@ -37,24 +37,10 @@ fn past(place: Place, c: char) -> Place
     ensures line { result.at.line ≤ result.offset + 1 }
     ensures column { result.at.column ≤ result.offset + 1 }
 {
-    if c == '\n' {
-        Place {
-            offset: place.offset + 1,
-            at: At {
-                line: place.at.line + 1,
-                column: 1,
-            },
-            is_head: true,
-        }
-    } else {
-        Place {
-            offset: place.offset + c.len_utf8() as u32,
-            at: At {
-                line: place.at.line,
-                column: place.at.column + 1,
-            },
-            is_head: place.is_head && is_blank(c),
-        }
+    Place {
+        offset: place.offset + c.len_utf8() as u32,
+        at: place.at.past(c),
+        is_head: c == '\n' || (place.is_head && is_blank(c)),
     }
 }
 

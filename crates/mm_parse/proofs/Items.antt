@@ -9,12 +9,12 @@ use Rattle.mm_parse_expr.specs.declared.symbol.Keyword.TheVariants as reserved
 use Rattle.mm_parse_expr.specs.declared.symbol.Symbol.{Symbol}
 use Rattle.mm_parse_expr.specs.declared.symbol.Symbol.TheVariants.{Keyword}
 use Rattle.mm_parse_expr.specs.declared.terminal.Terminal.{Terminal}
-use Rattle.mm_parse_expr.specs.Reading.{Reader}
-use Rattle.mm_parse.specs.StatementReading.{semicolon, others}
-use Rattle.mm_parse.specs.ProgramReading as r
-use Rattle.mm_parse.specs.ProgramReading.{global_item, item_by, items_begun, items, qualified}
-use Rattle.mm_parse.specs.Begun.{begun}
-use Rattle.mm_parse.specs.BegunItems.{globals_behind, qualified_by, item_begun, next_item}
+use Rattle.mm_parse_expr.specs.reading.ExprReading.{Reader}
+use Rattle.mm_grammar.specs.reading.StatementReading.{semicolon, others}
+use Rattle.mm_grammar.specs.reading.ProgramReading as r
+use Rattle.mm_grammar.specs.reading.ProgramReading.{global_item, item_by, items_begun, items, qualified}
+use Rattle.mm_parse.specs.reading.Begun.{begun}
+use Rattle.mm_parse.specs.reading.BegunItems.{globals_behind, qualified_by, item_begun, next_item}
 use Rattle.mm_parse.proofs.Joined.{joined, go_on, joined_more}
 
 -- the first of the globals, put before the others

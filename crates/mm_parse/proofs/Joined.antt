@@ -8,8 +8,8 @@ use Rattle.mm_reading.specs.Parsing.{Parser, Outcome, Parsed, Fault, after, ◌>
 use Rattle.mm_parse_expr.specs.declared.symbol.Symbol.{Symbol}
 use Rattle.mm_parse_expr.specs.declared.symbol.Symbol.TheVariants.{Comma}
 use Rattle.mm_parse_expr.specs.declared.terminal.Terminal.{Terminal}
-use Rattle.mm_parse_expr.specs.Reading.{Reader}
-use Rattle.mm_parse.specs.StatementReading.{is_comma, comma, comma_by, others}
+use Rattle.mm_parse_expr.specs.reading.ExprReading.{Reader}
+use Rattle.mm_grammar.specs.reading.StatementReading.{is_comma, comma, comma_by, others}
 
 -- these, and then those that are read
 abbrev pub joined : {A : Type 0} → List A → Outcome Terminal (List A) → Outcome Terminal (List A)

@@ -7,16 +7,16 @@ use Rattle.mm_parse_expr.specs.declared.symbol.Keyword.TheVariants as reserved
 use Rattle.mm_parse_expr.specs.declared.symbol.Symbol.{Symbol}
 use Rattle.mm_parse_expr.specs.declared.symbol.Symbol.TheVariants.{Name, Keyword, Operator, Colon, OpenBrace, CloseBrace}
 use Rattle.mm_parse_expr.specs.declared.terminal.Terminal.{Terminal}
-use Rattle.mm_parse_expr.specs.Reading.{Reader}
+use Rattle.mm_parse_expr.specs.reading.ExprReading.{Reader}
 use Rattle.mm_parse.specs.declared.reading.opening.Opening.{Opening}
 use Rattle.mm_parse.specs.declared.reading.opening.Opening.TheVariants as begins
 use Rattle.mm_parse.specs.declared.reading.opening.Head.TheVariants as over
-use Rattle.mm_parse.specs.StatementGrammar.{statement}
-use Rattle.mm_parse.specs.StatementReading.{Inner, declaration_by, either, node_by, inner, stmt}
-use Rattle.mm_parse.specs.StatementReading as r
-use Rattle.mm_parse.specs.Begun.{begun, in_parentheses, header}
-use Rattle.mm_parse.specs.Begun as b
-use Rattle.mm_parse.specs.Openings as o
+use Rattle.mm_tree.specs.Trees.{statement}
+use Rattle.mm_grammar.specs.reading.StatementReading.{Inner, declaration_by, either, node_by, inner, stmt}
+use Rattle.mm_grammar.specs.reading.StatementReading as r
+use Rattle.mm_parse.specs.reading.Begun.{begun, in_parentheses, header}
+use Rattle.mm_parse.specs.reading.Begun as b
+use Rattle.mm_parse.specs.reading.Openings as o
 use Rattle.mm_parse.proofs.Tested.{when_on, while_on, do_while_on, for_on, stmt_on}
 
 -- a statement that holds no other

@@ -13,12 +13,13 @@ use Rattle.mm_parse_expr.specs.declared.terminal.Terminal.{Terminal}
 use Rattle.mm_parse_expr.specs.declared.fault.ParseFault.{ParseFault}
 use Rattle.mm_parse_expr.specs.Faults.{fault_at}
 use Rattle.mm_parse_expr.specs.Terminals.{terminal_of}
-use Rattle.mm_parse.specs.Nesting.{deep_at}
-use Rattle.mm_parse.specs.ProgramGrammar.{IsProgram}
-use Rattle.mm_parse.specs.ProgramReading.{program}
-use Rattle.mm_parse.specs.Faults.{IsFault, IsFaultOf, no_program}
-use Rattle.mm_parse.proofs.ProgramRuns.{program_fault, program_whole}
-use Rattle.mm_parse.proofs.ProgramSound.{program_sound}
+use Rattle.mm_grammar.specs.Nesting.{deep_at}
+use Rattle.mm_grammar.specs.ProgramGrammar.{IsProgram}
+use Rattle.mm_grammar.specs.reading.ProgramReading.{program}
+use Rattle.mm_parse.specs.Faults.{IsFault, no_program}
+use Rattle.mm_parse.specs.reading.Whole.{IsFaultOf}
+use Rattle.mm_grammar.proofs.ProgramRuns.{program_fault, program_whole}
+use Rattle.mm_grammar.proofs.ProgramSound.{program_sound}
 
 pub is_program : (ts : List Terminal) (tree : Tree) (n : ℕ) → program n ts ≡ Parsed tree (rest_of (program n ts)) → IsProgram ts tree
 is_program ts tree n h =

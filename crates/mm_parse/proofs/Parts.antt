@@ -6,10 +6,10 @@ use Rattle.mm_reading.specs.Parsing.{Outcome, Parsed, Fault, after, ◌>>=◌, p
 use Rattle.mm_parse_expr.specs.declared.symbol.Symbol.{Symbol}
 use Rattle.mm_parse_expr.specs.declared.symbol.Symbol.TheVariants.{CloseBrace}
 use Rattle.mm_parse_expr.specs.declared.terminal.Terminal.{Terminal}
-use Rattle.mm_parse_expr.specs.Reading.{Reader}
-use Rattle.mm_parse.specs.StatementGrammar.{statement}
-use Rattle.mm_parse.specs.StatementReading.{inner, body_begun, body_by, body_of, body}
-use Rattle.mm_parse.specs.Begun.{part_by, next_begun, next_by, next}
+use Rattle.mm_parse_expr.specs.reading.ExprReading.{Reader}
+use Rattle.mm_tree.specs.Trees.{statement}
+use Rattle.mm_grammar.specs.reading.StatementReading.{inner, body_begun, body_by, body_of, body}
+use Rattle.mm_parse.specs.reading.Begun.{part_by, next_begun, next_by, next}
 use Rattle.mm_parse.proofs.Joined.{joined, go_on, joined_more}
 
 module _ (m : ℕ) (xs : List Stmt) where

@@ -6,10 +6,10 @@ use Rattle.mm_tree.specs.declared.stmt.StmtNode.{StmtNode}
 use Rattle.mm_tree.specs.declared.stmt.StmtNode.TheVariants as node
 use Rattle.mm_reading.specs.Parsing.{Outcome, Parsed, Fault, after, ◌>>=◌, ◌>>◌, pure, fail, peek, skip}
 use Rattle.mm_parse_expr.specs.declared.terminal.Terminal.{Terminal}
-use Rattle.mm_parse_expr.specs.Reading.{Reader, close}
-use Rattle.mm_parse.specs.Begun.{begun, in_parentheses, header}
-use Rattle.mm_parse.specs.StatementGrammar.{statement}
-use Rattle.mm_parse.specs.StatementReading.{Inner, expr, open_mark, while_word, first, condition, step, ended, with_expr, else_at, when, while, do_while, for, node_by, stmt_begun, stmt_of, inner, stmt}
+use Rattle.mm_parse_expr.specs.reading.ExprReading.{Reader, close}
+use Rattle.mm_parse.specs.reading.Begun.{begun, in_parentheses, header}
+use Rattle.mm_tree.specs.Trees.{statement}
+use Rattle.mm_grammar.specs.reading.StatementReading.{Inner, expr, open_mark, while_word, first, condition, step, ended, with_expr, else_at, when, while, do_while, for, node_by, stmt_begun, stmt_of, inner, stmt}
 
 module _ {A : Type 0} (n : ℕ) (f : Expr → Reader A) where
   closed : (e : Expr) (o : Outcome Terminal (Unit {0})) → after o (λ _. f e) ≡ after (after o (λ _. pure e)) f

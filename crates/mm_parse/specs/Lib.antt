@@ -1,13 +1,2 @@
-pub mod Begun
-pub mod BegunItems
 pub mod Faults
-pub mod Flat
-pub mod Meaning
-pub mod Nesting
-pub mod Openings
-pub mod ProgramGrammar
-pub mod ProgramReading
-pub mod SmallProgram
-pub mod SmallTree
-pub mod StatementGrammar
-pub mod StatementReading
+pub mod reading

@@ -1,11 +1,12 @@
 //! The tree of a text.
 ghost use Rattle.std.specs.Prelude.{◌≡◌, ◌≢◌, ◌≤◌, ◌+◌, length, IfOk, IfErr};
 ghost use Rattle.mm_lexer.specs.Tokens.{AreTokens};
-ghost use Rattle.mm_parse.specs.Faults.{Parses, IsFault, IsFaultOf, GivesWhole};
-ghost use Rattle.mm_parse.specs.ProgramReading as spec;
+ghost use Rattle.mm_parse.specs.Faults.{Parses, IsFault};
+ghost use Rattle.mm_grammar.specs.reading.ProgramReading as spec;
+ghost use Rattle.mm_parse.specs.reading.Whole.{GivesWhole, IsFaultOf};
 
-use crate::nesting::deep_at;
 use crate::reading::read_program;
+use mm_grammar::deep_at;
 use mm_lexer::Token;
 use mm_parse_expr::{DEPTH, ParseFault, Terminal, fault_at, terminals};
 use mm_reading::Refused;

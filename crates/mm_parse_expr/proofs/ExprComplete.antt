@@ -9,8 +9,9 @@ use Rattle.mm_reading.specs.Parsing.{Outcome, Parsed, ◌>>=◌, ◌>>◌, pure,
 use Rattle.mm_parse_expr.specs.declared.symbol.Symbol.TheVariants.{Operator}
 use Rattle.mm_parse_expr.specs.declared.terminal.Terminal.{Terminal}
 use Rattle.mm_parse_expr.specs.Grammar as g
-use Rattle.mm_parse_expr.specs.Grammar.{IsExpr, IsLevel, IsMore, IsUnary, IsPrimary, terminal, tree, word, binary_tree, choice_tree, looseness}
-use Rattle.mm_parse_expr.specs.Reading.{Reader, Lower, close, close_bracket, colon, name_word, index, element_tree, address_tree, primary, signed, pointed, address, unary, more_by, more_of, more, level, choice, expr, lower}
+use Rattle.mm_parse_expr.specs.Grammar.{IsExpr, IsLevel, IsMore, IsUnary, IsPrimary, terminal, binary_tree, choice_tree, looseness}
+use Rattle.mm_tree.specs.Trees.{expr as tree, word}
+use Rattle.mm_parse_expr.specs.reading.ExprReading.{Reader, Lower, close, close_bracket, colon, name_word, index, element_tree, address_tree, primary, signed, pointed, address, unary, more_by, more_of, more, level, choice, expr, lower}
 use Rattle.mm_parse_expr.proofs.Follow.{Stops, Ends, stops_less, ends_stop, operator_stops, joins_some, index_ends, more_ends, choice_ends}
 
 -- ---- what is read is some tokens

@@ -11,7 +11,7 @@ use Rattle.mm_parse_expr.specs.declared.symbol.Symbol.{Symbol}
 use Rattle.mm_parse_expr.specs.declared.symbol.Symbol.TheVariants.{Name, Number, Null, Operator, Not, Flip, Question, Open, OpenBracket}
 use Rattle.mm_parse_expr.specs.declared.terminal.Terminal.{Terminal}
 use Rattle.mm_parse_expr.specs.Grammar.{choice_tree}
-use Rattle.mm_parse_expr.specs.Reading.{Reader, Lower, close, close_bracket, colon, name_word, index_by, index_at, index, primary_by, signed, pointed, address, unary_by, unary_at, unary, joins, more_by, more_at, more_of, more, level, choice_by, choice_at, choice, expr, lower}
+use Rattle.mm_parse_expr.specs.reading.ExprReading.{Reader, Lower, close, close_bracket, colon, name_word, index_by, index_at, index, primary_by, signed, pointed, address, unary_by, unary_at, unary, joins, more_by, more_at, more_of, more, level, choice_by, choice_at, choice, expr, lower}
 
 pub record AllOnward (r : Lower) : Type 0 where
   pub expr : Onward r.expr

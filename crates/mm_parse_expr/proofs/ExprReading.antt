@@ -12,8 +12,9 @@ use Rattle.mm_reading.proofs.Combining.{Family, seq, Reads, Takes, Example, Bran
 use Rattle.mm_parse_expr.specs.declared.symbol.Symbol.{Symbol}
 use Rattle.mm_parse_expr.specs.declared.symbol.Symbol.TheVariants.{Name, Number, Null, Operator, Not, Flip, Question, Colon, Open, Close, OpenBracket, CloseBracket}
 use Rattle.mm_parse_expr.specs.declared.terminal.Terminal.{Terminal}
-use Rattle.mm_parse_expr.specs.Grammar.{terminal, tree, word, binary_tree, choice_tree}
-use Rattle.mm_parse_expr.specs.Reading.{Reader, Lower, is_close, is_close_bracket, is_colon, close, close_bracket, colon, named, name_word, index_at, index, element_tree, signed, pointed, address, unary_at, unary, joins, more_by, more_at, more_of, more, level, choice_at, choice, expr, lower}
+use Rattle.mm_parse_expr.specs.Grammar.{terminal, binary_tree, choice_tree}
+use Rattle.mm_tree.specs.Trees.{expr as tree, word}
+use Rattle.mm_parse_expr.specs.reading.ExprReading.{Reader, Lower, is_close, is_close_bracket, is_colon, close, close_bracket, colon, named, name_word, index_at, index, element_tree, signed, pointed, address, unary_at, unary, joins, more_by, more_at, more_of, more, level, choice_at, choice, expr, lower}
 use Rattle.mm_parse_expr.proofs.Follow.{Any, Stops, Ends, stops_less, ends_stop, index_ends, more_ends, choice_ends}
 
 -- ---- the families

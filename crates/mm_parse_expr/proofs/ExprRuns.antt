@@ -7,7 +7,7 @@ use Rattle.mm_reading.proofs.Sounding.{SoundAt}
 use Rattle.mm_reading.proofs.LongestRuns.{parsed_is_read, fault_is_first}
 use Rattle.mm_parse_expr.specs.declared.terminal.Terminal.{Terminal}
 use Rattle.mm_parse_expr.specs.Grammar.{IsExpr, IsUnary, IsExpression, IsUnaryExpression}
-use Rattle.mm_parse_expr.specs.Reading.{lower}
+use Rattle.mm_parse_expr.specs.reading.ExprReading.{lower}
 use Rattle.mm_parse_expr.proofs.Follow.{Any, Stops, Ends}
 use Rattle.mm_parse_expr.proofs.ExprSound.{all_sound}
 use Rattle.mm_parse_expr.proofs.ExprComplete.{expr_complete, unary_complete}
@@ -20,9 +20,6 @@ expr_sound m ts e same = subst (λ (o : Outcome Terminal Expr). SoundAt (λ e re
 pub expr_found : (ts : List Terminal) (e : Expr) → IsExpression ts e → (m : ℕ) → length ts < m → at_expr m ts ≡ Parsed e []
 expr_found ts e d m l = expr_complete d m tt l
 
-unary_sound : (m : ℕ) (ts : List Terminal) (e : Expr) → at_unary m ts ≡ Parsed e [] → IsUnaryExpression ts e
-unary_sound m ts e same = subst (λ (o : Outcome Terminal Expr). SoundAt (λ e rest. IsUnary ts e rest) o) same ((all_sound m).unary ts)
-
 pub unary_found : (ts : List Terminal) (e : Expr) → IsUnaryExpression ts e → (m : ℕ) → length ts < m → at_unary m ts ≡ Parsed e []
 unfolding lower
 unary_found ts e d zero l = absurd (omega arith)
@@ -33,12 +30,6 @@ expr_read n ts e rest l same = parsed_is_read IsExpression Any Ends at_expr tt e
 
 pub expr_fault : (n : ℕ) (ts rest : List Terminal) → length ts < n → (lower n).expr ts ≡ Fault rest → IsFirstFault IsExpression ts rest
 expr_fault n ts rest l same = fault_is_first IsExpression Any Ends at_expr tt expr_sound expr_found (λ m. (all_onward m).expr) n ts rest ((all_read n).expr.at ts l) same
-
-pub unary_read : (n : ℕ) (ts : List Terminal) (e : Expr) (rest : List Terminal) → length ts < n → (lower n).unary ts ≡ Parsed e rest → IsRead IsUnaryExpression ts e rest
-unary_read n ts e rest l same = parsed_is_read IsUnaryExpression Any (Stops 0) at_unary tt unary_sound unary_found n ts e rest ((all_read n).unary.at ts l) same
-
-pub unary_fault : (n : ℕ) (ts rest : List Terminal) → length ts < n → (lower n).unary ts ≡ Fault rest → IsFirstFault IsUnaryExpression ts rest
-unary_fault n ts rest l same = fault_is_first IsUnaryExpression Any (Stops 0) at_unary tt unary_sound unary_found (λ m. (all_onward m).unary) n ts rest ((all_read n).unary.at ts l) same
 
 -- the terminals tell the tree
 pub one_tree : (ts : List Terminal) (e f : Expr) → IsExpression ts e → IsExpression ts f → e ≡ f

@@ -15,8 +15,9 @@ use Rattle.mm_parse_expr.specs.declared.symbol.Symbol.{Symbol}
 use Rattle.mm_parse_expr.specs.declared.symbol.Symbol.TheVariants.{Name, Number, Null, Operator, Not, Flip, Question, Colon, Open, Close, OpenBracket, CloseBracket}
 use Rattle.mm_parse_expr.specs.declared.terminal.Terminal.{Terminal}
 use Rattle.mm_parse_expr.specs.Grammar as g
-use Rattle.mm_parse_expr.specs.Grammar.{IsExpr, IsLevel, IsMore, IsUnary, IsPrimary, terminal, tree, word, binary_tree, choice_tree, looseness}
-use Rattle.mm_parse_expr.specs.Reading.{Reader, Lower, is_close, is_close_bracket, is_colon, close, close_bracket, colon, named, name_word, index_by, index, element_tree, address_tree, primary_by, signed, pointed, address, unary_by, unary, joins, more_by, more_of, more, level, choice_by, choice, expr, lower}
+use Rattle.mm_parse_expr.specs.Grammar.{IsExpr, IsLevel, IsMore, IsUnary, IsPrimary, terminal, binary_tree, choice_tree, looseness}
+use Rattle.mm_tree.specs.Trees.{expr as tree, word}
+use Rattle.mm_parse_expr.specs.reading.ExprReading.{Reader, Lower, is_close, is_close_bracket, is_colon, close, close_bracket, colon, named, name_word, index_by, index, element_tree, address_tree, primary_by, signed, pointed, address, unary_by, unary, joins, more_by, more_of, more, level, choice_by, choice, expr, lower}
 
 pub record Sound (r : Lower) : Type 0 where
   pub expr : (ts : List Terminal) → SoundAt (λ e rest. IsExpr ts e rest) (r.expr ts)

@@ -8,7 +8,7 @@ use Rattle.mm_parse_expr.specs.declared.symbol.Symbol.{Symbol}
 use Rattle.mm_parse_expr.specs.declared.symbol.Symbol.TheVariants.{Operator, Question, OpenBracket}
 use Rattle.mm_parse_expr.specs.declared.terminal.Terminal.{Terminal}
 use Rattle.mm_parse_expr.specs.Grammar.{looseness}
-use Rattle.mm_parse_expr.specs.Reading.{Reader, Lower, index_by, index_at, joins, more_by, more_at, choice_by, choice_at}
+use Rattle.mm_parse_expr.specs.reading.ExprReading.{Reader, Lower, index_by, index_at, joins, more_by, more_at, choice_by, choice_at}
 
 -- any token, or the end
 abbrev pub Any : Option Terminal → Type 0

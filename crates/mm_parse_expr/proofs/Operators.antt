@@ -3,7 +3,7 @@ use Rattle.std.proofs.Common.{◌≡◌, ℕ, ◌-◌, ◌<◌, ◌≤◌, List,
 use Rattle.mm_goto.specs.declared.pure.Binary.{Binary}
 use Rattle.mm_reading.specs.Parsing.{peek, skip, pure}
 use Rattle.mm_parse_expr.specs.declared.terminal.Terminal.{Terminal}
-use Rattle.mm_parse_expr.specs.Reading.{joins, more_by, more_of, more, level, HasNoOperator, HasOperator}
+use Rattle.mm_parse_expr.specs.reading.ExprReading.{joins, more_by, more_of, more, level, HasNoOperator, HasOperator}
 
 -- the terminals are the first one and what stands behind it
 pub whole : (t : Terminal) (ts : List Terminal) → 1 ≤ length ts → t ≡ get_or ts 0 t → ts ≡ t ∷ take (length ts - 1) (drop 1 ts)

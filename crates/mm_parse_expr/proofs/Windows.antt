@@ -16,11 +16,11 @@ use Rattle.mm_reading.specs.Gives.{left_at, Fails}
 use Rattle.mm_reading.proofs.LongestRuns.{read_before, fault_before}
 use Rattle.mm_parse_expr.specs.declared.terminal.Terminal.{Terminal}
 use Rattle.mm_parse_expr.specs.declared.fault.ParseFault.{ParseFault}
-use Rattle.mm_parse_expr.specs.Grammar.{IsExpression, IsUnaryExpression}
+use Rattle.mm_parse_expr.specs.Grammar.{IsExpression}
 use Rattle.mm_parse_expr.specs.Terminals.{terminal_of}
 use Rattle.mm_parse_expr.specs.Faults.{fault_at, terminals_from, IsParsed, IsRefused, IsFaultBefore}
-use Rattle.mm_parse_expr.specs.Reading.{lower}
-use Rattle.mm_parse_expr.proofs.ExprRuns.{expr_read, expr_fault, unary_read, unary_fault}
+use Rattle.mm_parse_expr.specs.reading.ExprReading.{lower}
+use Rattle.mm_parse_expr.proofs.ExprRuns.{expr_read, expr_fault}
 
 -- the tokens that are looked at are some of the text too
 pub window_spans : (text : List ℕ) (tokens : List Token) (from k : ℕ) → IsUtf8 text → AreTokens text tokens → All (IsSpan text) (take k (drop from tokens))
@@ -96,17 +96,3 @@ module _ (text : List ℕ) (tokens seen : List Token) (from k : ℕ) (terminals 
       let there = fault_is o left h in
       let same : length (rest_of o) ≡ left = there.1 in
       refused_at IsExpression (rest_of o) fault (expr_fault (length terminals + 1) terminals (rest_of o) (omega arith) there.0) (is.0 ∙ ap (λ n. fault_at text (drop (length terminals - n) terminals)) (sym same)) (λ l z. is.1 (more l) (sym same ∙ z))
-
-  pub unary_parsed : (e : Expr) (left end : ℕ) → let o = (lower (length terminals + 1)).unary terminals in (o ≡ Parsed e (rest_of o)) × (length (rest_of o) ≡ left) → end ≡ from + (length seen - left) → (length seen < length tokens - from → left ≢ 0) → IsParsed IsUnaryExpression (terminals_from text tokens from) from e end
-  unary_parsed e left end h position cut =
-      let o = (lower (length terminals + 1)).unary terminals in
-      let same : length (rest_of o) ≡ left = h.1 in
-      parsed IsUnaryExpression e (rest_of o) end (unary_read (length terminals + 1) terminals e (rest_of o) (omega arith) h.0) (position ∙ ap (λ n. from + (length seen - n)) (sym same)) (λ l z. cut l (sym same ∙ z))
-
-  pub unary_refused : (refused : Refused) (cut : Bool) (fault : ParseFault) → Fails refused ((lower (length terminals + 1)).unary terminals) → IsFaultBefore text terminals refused cut fault → (length seen < length tokens - from → IsTrue cut) → IsRefused IsUnaryExpression text (terminals_from text tokens from) fault
-  unary_refused refused.Memory cut fault h is more = absurd is
-  unary_refused (refused.Fault left) cut fault h is more =
-      let o = (lower (length terminals + 1)).unary terminals in
-      let there = fault_is o left h in
-      let same : length (rest_of o) ≡ left = there.1 in
-      refused_at IsUnaryExpression (rest_of o) fault (unary_fault (length terminals + 1) terminals (rest_of o) (omega arith) there.0) (is.0 ∙ ap (λ n. fault_at text (drop (length terminals - n) terminals)) (sym same)) (λ l z. is.1 (more l) (sym same ∙ z))

@@ -1,5 +1,5 @@
 pub mod Faults
 pub mod Grammar
-pub mod Reading
 pub mod Symbols
 pub mod Terminals
+pub mod reading

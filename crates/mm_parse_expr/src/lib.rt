@@ -9,7 +9,7 @@ mod symbol;
 mod terminal;
 
 pub use fault::{ParseFault, fault_at};
-pub use parse::{DEPTH, TOKENS, parse_expr, parse_unary};
+pub use parse::{DEPTH, TOKENS, parse_expr};
 pub use reading::{
     address_tree, read_close, read_close_bracket, read_expr, read_index, read_name, read_unary,
 };

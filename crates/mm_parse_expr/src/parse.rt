@@ -2,11 +2,11 @@
 ghost use Rattle.std.specs.Prelude.{◌≡◌, ◌≢◌, ◌≤◌, ◌<◌, ◌+◌, ◌-◌, ◌^◌, IsTrue, IfOk, IfErr, length, take, drop};
 ghost use Rattle.mm_lexer.specs.Tokens.{AreTokens};
 ghost use Rattle.mm_parse_expr.specs.Faults.{IsFaultBefore, Parses, Refuses};
-ghost use Rattle.mm_parse_expr.specs.Grammar.{IsExpression, IsUnaryExpression};
-ghost use Rattle.mm_parse_expr.specs.Reading.{lower, expr_of, unary_of, GivesLeft};
+ghost use Rattle.mm_parse_expr.specs.Grammar.{IsExpression};
+ghost use Rattle.mm_parse_expr.specs.reading.ExprReading.{lower, expr_of, GivesLeft};
 
 use crate::fault::{ParseFault, fault_at};
-use crate::reading::{read_expr, read_unary};
+use crate::reading::read_expr;
 use crate::terminal::{Terminal, terminals};
 use mm_lexer::Token;
 use mm_reading::Refused;
@@ -74,15 +74,7 @@ fn expr_run<'a>(alloc: Global, terminals: &'a [Terminal<'a>]) -> Result<(Expr, u
     ensures { GivesLeft result (expr_of (lower (length terminals.now + 1)) terminals.now) }
 {
     let (expr, rest) = read_expr(alloc, terminals.len() + 1, DEPTH, terminals)?;
-    Ok((expr, rest.len()))
-}
-
-/// A unary expression, and how many of the terminals stand behind it.
-fn unary_run<'a>(alloc: Global, terminals: &'a [Terminal<'a>]) -> Result<(Expr, usize), Refused>
-    ensures { GivesLeft result (unary_of (lower (length terminals.now + 1)) terminals.now) }
-{
-    let (expr, rest) = read_unary(alloc, terminals.len() + 1, DEPTH, terminals)?;
-    Ok((expr, rest.len()))
+    Ok((expr.into_inner(), rest.len()))
 }
 
 /// The longest run of tokens from a position on that begins an expression. Where it is one, this is its tree and the
@@ -106,31 +98,6 @@ pub fn parse_expr(
     let terminals = terminals(alloc, text, seen)?;
     let all = terminals.as_slice();
     match expr_run(alloc, all) {
-        Ok((expr, left)) => Ok((expr, position(from, seen.len(), left, is_cut)?)),
-        Err(refused) => Err(fault_before(alloc, text, all, refused, is_cut)),
-    }
-}
-
-/// The same for a unary expression: the longest run of tokens from a position on that begins one.
-/// `TooDeep` is none of this function's faults.
-pub fn parse_unary(
-    alloc: Global,
-    text: &str,
-    tokens: &[Token],
-    from: usize,
-) -> Result<(Expr, usize), ParseFault>
-    requires size { length text.now ≤ 16777216 }
-    requires tokens { AreTokens text.now tokens.now }
-    requires from { from ≤ length tokens.now }
-    ensures expr { IfOk result (Parses IsUnaryExpression text.now tokens.now from) }
-    ensures fault { IfErr result (λ e. e ≢ ParseFault.NoMemory →
-        Refuses IsUnaryExpression text.now tokens.now from e) }
-{
-    let seen = window(tokens, from);
-    let is_cut = seen.len() < tokens.len() - from;
-    let terminals = terminals(alloc, text, seen)?;
-    let all = terminals.as_slice();
-    match unary_run(alloc, all) {
         Ok((expr, left)) => Ok((expr, position(from, seen.len(), left, is_cut)?)),
         Err(refused) => Err(fault_before(alloc, text, all, refused, is_cut)),
     }

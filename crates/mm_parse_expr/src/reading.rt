@@ -2,7 +2,7 @@
 ghost use Rattle.std.specs.Prelude.{◌≡◌, IfOk, MatchOption};
 ghost use Rattle.mm_reading.specs.Gives.{Gives, GivesUnit};
 ghost use Rattle.mm_parse_expr.specs.Grammar as grammar;
-ghost use Rattle.mm_parse_expr.specs.Reading as spec;
+ghost use Rattle.mm_parse_expr.specs.reading.ExprReading as spec;
 
 use crate::symbol::Symbol;
 use crate::terminal::Terminal;
@@ -13,7 +13,7 @@ use sqlite_items::Boxed;
 use std::alloc::Global;
 
 /// `)`.
-#[tactic(auto, unfolding(crate::specs::Reading::close, mm_reading::specs::Parsing::token, mm_reading::specs::Parsing::peek, mm_reading::specs::Parsing::skip, mm_reading::specs::Parsing::pure, mm_reading::specs::Parsing::fail))]
+#[tactic(auto, unfolding(crate::specs::reading::ExprReading::close, mm_reading::specs::Parsing::token, mm_reading::specs::Parsing::peek, mm_reading::specs::Parsing::skip, mm_reading::specs::Parsing::pure, mm_reading::specs::Parsing::fail))]
 pub fn read_close<'a>(ts: &'a [Terminal<'a>]) -> Result<&'a [Terminal<'a>], Refused>
     ensures { GivesUnit result (spec.close ts.now) }
 {
@@ -30,7 +30,7 @@ pub fn read_close<'a>(ts: &'a [Terminal<'a>]) -> Result<&'a [Terminal<'a>], Refu
 }
 
 /// A name.
-#[tactic(auto, unfolding(crate::specs::Reading::name_word, mm_reading::specs::Parsing::token, mm_reading::specs::Parsing::peek, mm_reading::specs::Parsing::skip, mm_reading::specs::Parsing::pure, mm_reading::specs::Parsing::fail))]
+#[tactic(auto, unfolding(crate::specs::reading::ExprReading::name_word, mm_reading::specs::Parsing::token, mm_reading::specs::Parsing::peek, mm_reading::specs::Parsing::skip, mm_reading::specs::Parsing::pure, mm_reading::specs::Parsing::fail))]
 pub fn read_name<'a>(
     alloc: Global,
     ts: &'a [Terminal<'a>],
@@ -93,35 +93,43 @@ fn next_operator<'a>(level: u32, ts: &'a [Terminal<'a>]) -> Option<(Binary, &'a 
     }
 }
 
-fn binary_tree(alloc: Global, op: Binary, a: Expr, b: Expr) -> Result<Expr, NoMemory>
+fn binary_tree(
+    alloc: Global,
+    op: Binary,
+    a: Boxed<Expr>,
+    b: Boxed<Expr>,
+) -> Result<Boxed<Expr>, NoMemory>
     ensures { IfOk result (λ e. e ≡ grammar.binary_tree op a b) }
 {
-    let at = a.at;
-    let node = Node::Bin(op, Boxed::new(alloc, a)?, Boxed::new(alloc, b)?);
-    Ok(Expr { at, node })
+    let at = a.get().at;
+    Expr::boxed(alloc, at, Node::Bin(op, a, b))
 }
 
-fn choice_tree(alloc: Global, c: Expr, a: Expr, b: Expr) -> Result<Expr, NoMemory>
+fn choice_tree(
+    alloc: Global,
+    c: Boxed<Expr>,
+    a: Boxed<Expr>,
+    b: Boxed<Expr>,
+) -> Result<Boxed<Expr>, NoMemory>
     ensures { IfOk result (λ e. e ≡ grammar.choice_tree c a b) }
 {
-    let at = c.at;
-    let node = Node::Cond(
-        Boxed::new(alloc, c)?,
-        Boxed::new(alloc, a)?,
-        Boxed::new(alloc, b)?,
-    );
-    Ok(Expr { at, node })
+    let at = c.get().at;
+    Expr::boxed(alloc, at, Node::Cond(c, a, b))
 }
 
-fn element_tree(alloc: Global, at: At, name: &str, index: Option<Expr>) -> Result<Expr, NoMemory>
+fn element_tree(
+    alloc: Global,
+    at: At,
+    name: &str,
+    index: Option<Boxed<Expr>>,
+) -> Result<Boxed<Expr>, NoMemory>
     ensures { IfOk result (λ e. e ≡ spec.element_tree at name.now index) }
 {
     let name = Ident::copy_of(alloc, name)?;
-    let node = match index {
-        Some(index) => Node::Index(name, Boxed::new(alloc, index)?),
-        None => Node::Name(name),
-    };
-    Ok(Expr { at, node })
+    match index {
+        Some(index) => Expr::boxed(alloc, at, Node::Index(name, index)),
+        None => Expr::boxed(alloc, at, Node::Name(name)),
+    }
 }
 
 /// The address of a name, or of an element where an index stands behind it.
@@ -129,19 +137,18 @@ pub fn address_tree(
     alloc: Global,
     at: At,
     name: Word,
-    index: Option<Expr>,
-) -> Result<Expr, NoMemory>
+    index: Option<Boxed<Expr>>,
+) -> Result<Boxed<Expr>, NoMemory>
     ensures { IfOk result (λ e. e ≡ spec.address_tree at name index) }
 {
-    let node = match index {
-        Some(index) => Node::AddrIndex(name, Boxed::new(alloc, index)?),
-        None => Node::AddrName(name),
-    };
-    Ok(Expr { at, node })
+    match index {
+        Some(index) => Expr::boxed(alloc, at, Node::AddrIndex(name, index)),
+        None => Expr::boxed(alloc, at, Node::AddrName(name)),
+    }
 }
 
 /// `]`.
-#[tactic(auto, unfolding(crate::specs::Reading::close_bracket, mm_reading::specs::Parsing::token, mm_reading::specs::Parsing::peek, mm_reading::specs::Parsing::skip, mm_reading::specs::Parsing::pure, mm_reading::specs::Parsing::fail))]
+#[tactic(auto, unfolding(crate::specs::reading::ExprReading::close_bracket, mm_reading::specs::Parsing::token, mm_reading::specs::Parsing::peek, mm_reading::specs::Parsing::skip, mm_reading::specs::Parsing::pure, mm_reading::specs::Parsing::fail))]
 pub fn read_close_bracket<'a>(ts: &'a [Terminal<'a>]) -> Result<&'a [Terminal<'a>], Refused>
     ensures { GivesUnit result (spec.close_bracket ts.now) }
 {
@@ -157,7 +164,7 @@ pub fn read_close_bracket<'a>(ts: &'a [Terminal<'a>]) -> Result<&'a [Terminal<'a
     }
 }
 
-#[tactic(auto, unfolding(crate::specs::Reading::colon, mm_reading::specs::Parsing::token, mm_reading::specs::Parsing::peek, mm_reading::specs::Parsing::skip, mm_reading::specs::Parsing::pure, mm_reading::specs::Parsing::fail))]
+#[tactic(auto, unfolding(crate::specs::reading::ExprReading::colon, mm_reading::specs::Parsing::token, mm_reading::specs::Parsing::peek, mm_reading::specs::Parsing::skip, mm_reading::specs::Parsing::pure, mm_reading::specs::Parsing::fail))]
 fn read_colon<'a>(ts: &'a [Terminal<'a>]) -> Result<&'a [Terminal<'a>], Refused>
     ensures { GivesUnit result (spec.colon ts.now) }
 {
@@ -176,13 +183,13 @@ fn read_colon<'a>(ts: &'a [Terminal<'a>]) -> Result<&'a [Terminal<'a>], Refused>
 /// An index in brackets, where one stands there. It wants memory where `depth` is 0, and `bound` is above the number of
 /// tokens.
 #[cycle(reading)]
-#[tactic(auto, unfolding(crate::specs::Reading::index, mm_reading::specs::Parsing::peek, mm_reading::specs::Parsing::skip, mm_reading::specs::Parsing::pure))]
+#[tactic(auto, unfolding(crate::specs::reading::ExprReading::index, mm_reading::specs::Parsing::peek, mm_reading::specs::Parsing::skip, mm_reading::specs::Parsing::pure))]
 pub fn read_index<'a>(
     alloc: Global,
     bound: usize,
     depth: u32,
     ts: &'a [Terminal<'a>],
-) -> Result<(Option<Expr>, &'a [Terminal<'a>]), Refused>
+) -> Result<(Option<Boxed<Expr>>, &'a [Terminal<'a>]), Refused>
     ensures { Gives result (spec.index (spec.lower bound) ts.now) }
 {
     match ts {
@@ -201,13 +208,13 @@ pub fn read_index<'a>(
 }
 
 #[cycle(reading)]
-#[tactic(auto, unfolding(crate::specs::Reading::primary, mm_reading::specs::Parsing::peek, mm_reading::specs::Parsing::skip, mm_reading::specs::Parsing::pure, mm_reading::specs::Parsing::fail))]
+#[tactic(auto, unfolding(crate::specs::reading::ExprReading::primary, mm_reading::specs::Parsing::peek, mm_reading::specs::Parsing::skip, mm_reading::specs::Parsing::pure, mm_reading::specs::Parsing::fail))]
 fn read_primary<'a>(
     alloc: Global,
     bound: usize,
     depth: u32,
     ts: &'a [Terminal<'a>],
-) -> Result<(Expr, &'a [Terminal<'a>]), Refused>
+) -> Result<(Boxed<Expr>, &'a [Terminal<'a>]), Refused>
     ensures { Gives result (spec.primary (spec.lower bound) ts.now) }
 {
     let [first, rest @ ..] = ts else {
@@ -215,14 +222,8 @@ fn read_primary<'a>(
     };
     let at = first.at;
     match first.symbol {
-        Symbol::Number(n) => {
-            let node = Node::Number(n);
-            Ok((Expr { at, node }, rest))
-        }
-        Symbol::Null => {
-            let node = Node::Null;
-            Ok((Expr { at, node }, rest))
-        }
+        Symbol::Number(n) => Ok((Expr::boxed(alloc, at, Node::Number(n))?, rest)),
+        Symbol::Null => Ok((Expr::boxed(alloc, at, Node::Null)?, rest)),
         Symbol::Name => {
             let (index, rest) = read_index(alloc, bound, depth, rest)?;
             Ok((element_tree(alloc, at, first.spelling.text(), index)?, rest))
@@ -236,7 +237,7 @@ fn read_primary<'a>(
 }
 
 #[cycle(reading)]
-#[tactic(auto, unfolding(crate::specs::Reading::signed, mm_reading::specs::Parsing::pure))]
+#[tactic(auto, unfolding(crate::specs::reading::ExprReading::signed, mm_reading::specs::Parsing::pure))]
 fn read_signed<'a>(
     alloc: Global,
     bound: usize,
@@ -244,39 +245,37 @@ fn read_signed<'a>(
     at: At,
     op: Unary,
     ts: &'a [Terminal<'a>],
-) -> Result<(Expr, &'a [Terminal<'a>]), Refused>
+) -> Result<(Boxed<Expr>, &'a [Terminal<'a>]), Refused>
     ensures { Gives result (spec.signed (spec.lower bound) at op ts.now) }
 {
     let (operand, rest) = read_unary(alloc, bound, depth, ts)?;
-    let node = Node::Un(op, Boxed::new(alloc, operand)?);
-    Ok((Expr { at, node }, rest))
+    Ok((Expr::boxed(alloc, at, Node::Un(op, operand))?, rest))
 }
 
 #[cycle(reading)]
-#[tactic(auto, unfolding(crate::specs::Reading::pointed, mm_reading::specs::Parsing::pure))]
+#[tactic(auto, unfolding(crate::specs::reading::ExprReading::pointed, mm_reading::specs::Parsing::pure))]
 fn read_pointed<'a>(
     alloc: Global,
     bound: usize,
     depth: u32,
     at: At,
     ts: &'a [Terminal<'a>],
-) -> Result<(Expr, &'a [Terminal<'a>]), Refused>
+) -> Result<(Boxed<Expr>, &'a [Terminal<'a>]), Refused>
     ensures { Gives result (spec.pointed (spec.lower bound) at ts.now) }
 {
     let (pointer, rest) = read_unary(alloc, bound, depth, ts)?;
-    let node = Node::Deref(Boxed::new(alloc, pointer)?);
-    Ok((Expr { at, node }, rest))
+    Ok((Expr::boxed(alloc, at, Node::Deref(pointer))?, rest))
 }
 
 #[cycle(reading)]
-#[tactic(auto, unfolding(crate::specs::Reading::address, mm_reading::specs::Parsing::pure))]
+#[tactic(auto, unfolding(crate::specs::reading::ExprReading::address, mm_reading::specs::Parsing::pure))]
 fn read_address<'a>(
     alloc: Global,
     bound: usize,
     depth: u32,
     at: At,
     ts: &'a [Terminal<'a>],
-) -> Result<(Expr, &'a [Terminal<'a>]), Refused>
+) -> Result<(Boxed<Expr>, &'a [Terminal<'a>]), Refused>
     ensures { Gives result (spec.address (spec.lower bound) at ts.now) }
 {
     let (name, rest) = read_name(alloc, ts)?;
@@ -286,13 +285,13 @@ fn read_address<'a>(
 
 /// A unary expression. It wants memory where `depth` is 0, and `bound` is above the number of tokens.
 #[cycle(reading)]
-#[tactic(auto, unfolding(crate::specs::Reading::lower, crate::specs::Reading::unary, crate::specs::Reading::primary, mm_reading::specs::Parsing::peek, mm_reading::specs::Parsing::skip, mm_reading::specs::Parsing::fail))]
+#[tactic(auto, unfolding(crate::specs::reading::ExprReading::lower, crate::specs::reading::ExprReading::unary, crate::specs::reading::ExprReading::primary, mm_reading::specs::Parsing::peek, mm_reading::specs::Parsing::skip, mm_reading::specs::Parsing::fail))]
 pub fn read_unary<'a>(
     alloc: Global,
     bound: usize,
     depth: u32,
     ts: &'a [Terminal<'a>],
-) -> Result<(Expr, &'a [Terminal<'a>]), Refused>
+) -> Result<(Boxed<Expr>, &'a [Terminal<'a>]), Refused>
     ensures { Gives result (spec.unary_of (spec.lower bound) ts.now) }
 {
     if depth == 0 {
@@ -305,13 +304,13 @@ pub fn read_unary<'a>(
 }
 
 #[cycle(reading)]
-#[tactic(auto, unfolding(crate::specs::Reading::unary, crate::specs::Reading::primary, mm_reading::specs::Parsing::peek, mm_reading::specs::Parsing::skip, mm_reading::specs::Parsing::fail))]
+#[tactic(auto, unfolding(crate::specs::reading::ExprReading::unary, crate::specs::reading::ExprReading::primary, mm_reading::specs::Parsing::peek, mm_reading::specs::Parsing::skip, mm_reading::specs::Parsing::fail))]
 fn read_open_unary<'a>(
     alloc: Global,
     bound: usize,
     depth: u32,
     ts: &'a [Terminal<'a>],
-) -> Result<(Expr, &'a [Terminal<'a>]), Refused>
+) -> Result<(Boxed<Expr>, &'a [Terminal<'a>]), Refused>
     ensures { Gives result (spec.unary (spec.lower bound) ts.now) }
 {
     let [first, rest @ ..] = ts else {
@@ -330,14 +329,14 @@ fn read_open_unary<'a>(
 }
 
 #[cycle(reading)]
-#[tactic(auto, unfolding(crate::specs::Reading::level, crate::specs::Reading::more))]
+#[tactic(auto, unfolding(crate::specs::reading::ExprReading::level, crate::specs::reading::ExprReading::more))]
 fn read_level<'a>(
     alloc: Global,
     bound: usize,
     depth: u32,
     level: u32,
     ts: &'a [Terminal<'a>],
-) -> Result<(Expr, &'a [Terminal<'a>]), Refused>
+) -> Result<(Boxed<Expr>, &'a [Terminal<'a>]), Refused>
     ensures { Gives result (spec.level (spec.lower bound) level ts.now) }
 {
     if level == 0 {
@@ -348,15 +347,15 @@ fn read_level<'a>(
 }
 
 #[cycle(reading)]
-#[tactic(auto, unfolding(crate::specs::Reading::lower, mm_reading::specs::Parsing::pure))]
+#[tactic(auto, unfolding(crate::specs::reading::ExprReading::lower, mm_reading::specs::Parsing::pure))]
 fn read_more<'a>(
     alloc: Global,
     bound: usize,
     depth: u32,
     level: u32,
-    first: Expr,
+    first: Boxed<Expr>,
     ts: &'a [Terminal<'a>],
-) -> Result<(Expr, &'a [Terminal<'a>]), Refused>
+) -> Result<(Boxed<Expr>, &'a [Terminal<'a>]), Refused>
     ensures { Gives result (spec.more (spec.lower bound) level first ts.now) }
 {
     let Some((op, rest)) = next_operator(level, ts) else {
@@ -374,14 +373,14 @@ fn read_more<'a>(
 }
 
 #[cycle(reading)]
-#[tactic(auto, unfolding(crate::specs::Reading::choice, mm_reading::specs::Parsing::peek, mm_reading::specs::Parsing::skip, mm_reading::specs::Parsing::pure))]
+#[tactic(auto, unfolding(crate::specs::reading::ExprReading::choice, mm_reading::specs::Parsing::peek, mm_reading::specs::Parsing::skip, mm_reading::specs::Parsing::pure))]
 fn read_choice<'a>(
     alloc: Global,
     bound: usize,
     depth: u32,
-    test: Expr,
+    test: Boxed<Expr>,
     ts: &'a [Terminal<'a>],
-) -> Result<(Expr, &'a [Terminal<'a>]), Refused>
+) -> Result<(Boxed<Expr>, &'a [Terminal<'a>]), Refused>
     ensures { Gives result (spec.choice (spec.lower bound) test ts.now) }
 {
     match ts {
@@ -403,13 +402,13 @@ fn read_choice<'a>(
 
 /// An expression. It wants memory where `depth` is 0, and `bound` is above the number of tokens.
 #[cycle(reading)]
-#[tactic(auto, unfolding(crate::specs::Reading::lower, crate::specs::Reading::expr, mm_reading::specs::Parsing::fail))]
+#[tactic(auto, unfolding(crate::specs::reading::ExprReading::lower, crate::specs::reading::ExprReading::expr, mm_reading::specs::Parsing::fail))]
 pub fn read_expr<'a>(
     alloc: Global,
     bound: usize,
     depth: u32,
     ts: &'a [Terminal<'a>],
-) -> Result<(Expr, &'a [Terminal<'a>]), Refused>
+) -> Result<(Boxed<Expr>, &'a [Terminal<'a>]), Refused>
     ensures { Gives result (spec.expr_of (spec.lower bound) ts.now) }
 {
     if depth == 0 {

@@ -16,10 +16,10 @@ use Rattle.mm_flat.proofs.Codes.{around}
 use Rattle.mm_parse_expr.specs.declared.symbol.Symbol.TheVariants as symbol
 use Rattle.mm_parse_expr.specs.declared.terminal.Terminal.{Terminal}
 use Rattle.mm_parse_expr.proofs.WordNames.{name_symbol}
-use Rattle.mm_parse.specs.declared.nesting.Counts.{Counts}
-use Rattle.mm_parse.specs.Nesting.{limits, deep_behind}
-use Rattle.mm_parse.specs.StatementGrammar as g
-use Rattle.mm_parse.specs.StatementGrammar.{IsBody}
+use Rattle.mm_grammar.specs.declared.depth.Counts.{Counts}
+use Rattle.mm_grammar.specs.Nesting.{limits, deep_behind}
+use Rattle.mm_grammar.specs.StatementGrammar as g
+use Rattle.mm_grammar.specs.StatementGrammar.{IsBody}
 use Rattle.mm_print.specs.SmallText.{label_text}
 use Rattle.mm_print.specs.Woven.{fresh, end_of}
 use Rattle.mm_print.proofs.Lookup.{declared, labelled}

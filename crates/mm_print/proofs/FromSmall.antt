@@ -10,13 +10,13 @@ use Rattle.mm_goto.specs.declared.program.Instr.TheVariants.{Jump, End}
 use Rattle.mm_goto.specs.declared.program.Thread.{Thread}
 use Rattle.mm_goto.specs.Names.{IsDeclarable}
 use Rattle.mm_goto.specs.Terms.{constant, the_local}
-use Rattle.mm_parse.specs.declared.small_program.tree.Statement.{Statement}
-use Rattle.mm_parse.specs.declared.small_program.tree.Statement.TheVariants as statement
-use Rattle.mm_parse.specs.declared.small_program.tree.Small.{Small}
-use Rattle.mm_parse.specs.SmallTree.{IsNumber, IsStatementIn, IsWithinLimits}
-use Rattle.mm_parse.specs.Flat.{reads, asserts, equals, statement_code, body_code, main_of, cell, listing_of}
-use Rattle.mm_parse.proofs.SmallSourcelike.{one_cell}
-use Rattle.mm_parse.proofs.Validity.{append_in, length_sites, body_length, reads_length}
+use Rattle.mm_small.specs.declared.tree.Statement.{Statement}
+use Rattle.mm_small.specs.declared.tree.Statement.TheVariants as statement
+use Rattle.mm_small.specs.declared.tree.Small.{Small}
+use Rattle.mm_small.specs.SmallTree.{IsNumber, IsStatementIn, IsWithinLimits}
+use Rattle.mm_small.specs.Flat.{reads, asserts, equals, statement_code, body_code, main_of, cell, listing_of}
+use Rattle.mm_small.proofs.SmallSourcelike.{one_cell}
+use Rattle.mm_small.proofs.Validity.{append_in, length_sites, body_length, reads_length}
 use Rattle.mm_print.specs.SmallListing as small
 use Rattle.mm_print.specs.SmallListing.{IsSmallExpr, IsSmallInstr, IsSmallCell, IsSmallListing}
 

@@ -13,16 +13,17 @@ use Rattle.mm_tree.specs.declared.stmt.Stmt.{Stmt}
 use Rattle.mm_tree.specs.declared.item.Item.{Item}
 use Rattle.mm_tree.specs.declared.item.Item.TheVariants as item
 use Rattle.mm_tree.specs.declared.side.Side.TheVariants.{Output}
+use Rattle.mm_tree.specs.Trees as trees
 use Rattle.mm_flat.specs.Flattening.{nothing_known, AreCode, int_cell, AreVariables, AreCells, main_item, IsMain, placed}
 use Rattle.mm_flat.proofs.Codes.{around}
 use Rattle.mm_parse_expr.specs.declared.symbol.Keyword.TheVariants as reserved
 use Rattle.mm_parse_expr.specs.declared.symbol.Symbol.TheVariants as symbol
 use Rattle.mm_parse_expr.specs.declared.terminal.Terminal.{Terminal}
 use Rattle.mm_parse_expr.specs.Symbols.{word_symbol}
-use Rattle.mm_parse.specs.Nesting.{limits, deep_behind, nothing}
-use Rattle.mm_parse.specs.ProgramGrammar as g
-use Rattle.mm_parse.specs.ProgramGrammar.{AreItems}
-use Rattle.mm_parse.specs.StatementGrammar.{no_star}
+use Rattle.mm_grammar.specs.Nesting.{limits, deep_behind, nothing}
+use Rattle.mm_grammar.specs.ProgramGrammar as g
+use Rattle.mm_grammar.specs.ProgramGrammar.{AreItems}
+use Rattle.mm_grammar.specs.StatementGrammar.{no_star}
 use Rattle.mm_print.specs.SmallListing.{IsSmallCell}
 use Rattle.mm_print.specs.SmallText.{written, locals_text, code_text, main_text, global_text}
 use Rattle.mm_print.specs.Woven.{end_of, statements, declaration, woven_main}
@@ -129,7 +130,7 @@ module _ (cells : List Cell) (main : Thread) where
     shallow = λ ps. s.shallow (skipped 5 ps);
     read = λ ps.
         let r = s.read (skipped 5 ps) in
-        let items : List Item = item.Globals (g.global (place 1 ps) false cell.name None (g.number_at (place 3 ps) (pos small.value) ∷ []) ∷ []) ∷ r.items in
+        let items : List Item = item.Globals (trees.global (place 1 ps) false cell.name None (g.number_at (place 3 ps) (pos small.value) ∷ []) ∷ []) ∷ r.items in
         record {
           items = items;
           parsed = g.more_items (g.globals g.no_quals (g.last_global (g.set_variable no_star (g.constant g.number)))) r.parsed;

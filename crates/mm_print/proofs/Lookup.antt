@@ -10,7 +10,7 @@ use Rattle.std.proofs.lemmas.Slice.Eq.{bytes_eq-Decides}
 use Rattle.mm_goto.specs.declared.ident.Ident.{Ident}
 use Rattle.mm_goto.specs.declared.program.Cell.{Cell}
 use Rattle.mm_goto.specs.declared.program.Instr.{Instr}
-use Rattle.mm_flat.specs.Flattening.{Named, named, number_of, cell_of}
+use Rattle.mm_flat.specs.Flattening.{Named, numbered, number_of, cell_named}
 use Rattle.mm_print.specs.SmallText.{local_text, label_text}
 use Rattle.mm_print.specs.Woven.{size}
 
@@ -26,11 +26,11 @@ eq_apart xs ys n = by (bytes_eq xs ys) (bytes_eq-Decides xs ys).0
     by true h = absurd (n (h refl))
     by false h = refl
 
-front : (x : Ident) (n : ℕ) (names : List Named) → number_of (named x n ∷ names) x ≡ Some n
-front x n names = ap (λ b. option_map (λ (m : Named). m.number) (cond b (Some (named x n)) (find (λ m. bytes_eq m.name x) names))) (eq_same x x refl)
+front : (x : Ident) (n : ℕ) (names : List Named) → number_of (numbered x n ∷ names) x ≡ Some n
+front x n names = ap (λ b. option_map (λ (m : Named). m.number) (cond b (Some (numbered x n)) (find (λ m. bytes_eq m.name x) names))) (eq_same x x refl)
 
-past : (x y : Ident) (n : ℕ) (names : List Named) → x ≢ y → number_of (named x n ∷ names) y ≡ number_of names y
-past x y n names h = ap (λ b. option_map (λ (m : Named). m.number) (cond b (Some (named x n)) (find (λ m. bytes_eq m.name y) names))) (eq_apart x y h)
+past : (x y : Ident) (n : ℕ) (names : List Named) → x ≢ y → number_of (numbered x n ∷ names) y ≡ number_of names y
+past x y n names h = ap (λ b. option_map (λ (m : Named). m.number) (cond b (Some (numbered x n)) (find (λ m. bytes_eq m.name y) names))) (eq_apart x y h)
 
 -- ---- locals
 
@@ -40,7 +40,7 @@ local_apart l m g h n e = n (decimal_injective l m (omega arith) (omega arith) (
 -- the declarations of n locals, the last in front
 abbrev pub declared : ℕ → List Named
 declared zero = []
-declared (suc n) = named (local_text n) n ∷ declared n
+declared (suc n) = numbered (local_text n) n ∷ declared n
 
 pub local_found : (n l : ℕ) → n ≤ 2 ^ 32 → l < n → number_of (declared n) (local_text l) ≡ Some l
 local_found zero l h k = absurd (omega arith)
@@ -66,23 +66,23 @@ label_apart j k g h n e = n (decimal_injective j k (omega arith) (omega arith) (
 -- the labels of the instructions from number k and place m on, the last in front, and those before them
 abbrev pub labelled : ℕ → ℕ → List Instr → List Named → List Named
 labelled k m [] before = before
-labelled k m (i ∷ is) before = labelled (k + 1) (m + size i) is (named (label_text k) m ∷ before)
+labelled k m (i ∷ is) before = labelled (k + 1) (m + size i) is (numbered (label_text k) m ∷ before)
 
 label_before : (j k m : ℕ) (is : List Instr) (before : List Named) → j < k → k + length is ≤ 2 ^ 32 → number_of (labelled k m is before) (label_text j) ≡ number_of before (label_text j)
 label_before j k m [] before h g = refl
 label_before j k m (i ∷ is) before h g =
     let other : k ≢ j = omega arith in
-    label_before j (k + 1) (m + size i) is (named (label_text k) m ∷ before) (omega arith) (omega arith) ∙ past (label_text k) (label_text j) m before (label_apart k j (omega arith) (omega arith) other)
+    label_before j (k + 1) (m + size i) is (numbered (label_text k) m ∷ before) (omega arith) (omega arith) ∙ past (label_text k) (label_text j) m before (label_apart k j (omega arith) (omega arith) other)
 
 pub label_found : (d k m : ℕ) (is : List Instr) (before : List Named) → d < length is → k + length is ≤ 2 ^ 32 → number_of (labelled k m is before) (label_text (k + d)) ≡ Some (m + sum_by size (take d is))
 label_found d k m [] before h g = absurd (omega arith)
 label_found zero k m (i ∷ is) before h g =
     ap (λ j. number_of (labelled k m (i ∷ is) before) (label_text j)) {x = k + 0} {y = k} (omega arith)
-    ∙ label_before k (k + 1) (m + size i) is (named (label_text k) m ∷ before) (omega arith) (omega arith)
+    ∙ label_before k (k + 1) (m + size i) is (numbered (label_text k) m ∷ before) (omega arith) (omega arith)
     ∙ front (label_text k) m before ∙ ap Some (omega arith)
 label_found (suc d) k m (i ∷ is) before h g =
     ap (λ j. number_of (labelled k m (i ∷ is) before) (label_text j)) {x = k + suc d} {y = k + 1 + d} (omega arith)
-    ∙ label_found d (k + 1) (m + size i) is (named (label_text k) m ∷ before) (omega arith) (omega arith)
+    ∙ label_found d (k + 1) (m + size i) is (numbered (label_text k) m ∷ before) (omega arith) (omega arith)
     ∙ ap Some (omega (arith, sum_by-cons size i (take d is)))
 
 -- ---- cells
@@ -111,7 +111,7 @@ first_place p (y ∷ ys) (suc c) x e h alone =
     below : (d : ℕ) → suc d ≡ suc c → d ≡ c
     below d g = omega arith
 
-pub cell_found : (cells : List Cell) (x : Ident) (c : ℕ) → HasPlace cells x c → cell_of cells x ≡ Some c
+pub cell_found : (cells : List Cell) (x : Ident) (c : ℕ) → HasPlace cells x c → cell_named cells x ≡ Some c
 cell_found cells x c h =
     let f = first_place (λ (b : Cell). bytes_eq b.name x) cells c h.cell h.there (eq_same h.cell.name x h.name) (λ d b g t. h.alone d b g ((bytes_eq-Decides b.name x).0 t)) in
     placed (position_or_len (λ (b : Cell). bytes_eq b.name x) cells) (length cells) f.0 f.1

@@ -14,7 +14,7 @@ use Rattle.mm_flat.specs.Flattening as flat
 use Rattle.mm_parse_expr.specs.declared.symbol.Keyword.TheVariants as reserved
 use Rattle.mm_parse_expr.specs.declared.symbol.Symbol.TheVariants as symbol
 use Rattle.mm_parse_expr.specs.Symbols.{word_symbol}
-use Rattle.mm_parse.specs.StatementGrammar as g
+use Rattle.mm_grammar.specs.StatementGrammar as g
 use Rattle.mm_print.specs.SmallListing.{IsSmallInstr}
 use Rattle.mm_print.specs.SmallText.{local_text, label_text, cell_text, line_text, code_text, declaration_text, locals_text}
 use Rattle.mm_print.specs.Woven.{fresh, size, place_of, end_of, statement, statements, declaration}
@@ -46,7 +46,7 @@ AreSmall cells main (i ∷ is) = (IsSmallInstr cells main i ⊎ (i ≡ instr.End
 
 -- what is behind a statement, from number k + 1 on
 abbrev Behind : List Cell → Thread → ℕ → ℕ → ℕ → List Named → Instr → List Instr → Type 0
-Behind cells main k m t ls i is = (a : ℕ) → Rest cells main (code_text cells (k + 1) is ++ codes "}\n") (state main (t + fresh i) a (flat.named (label_text k) m ∷ ls)) (statements main (t + fresh i) is ++ instr.End ∷ [])
+Behind cells main k m t ls i is = (a : ℕ) → Rest cells main (code_text cells (k + 1) is ++ codes "}\n") (state main (t + fresh i) a (flat.numbered (label_text k) m ∷ ls)) (statements main (t + fresh i) is ++ instr.End ∷ [])
 
 module _ (cells : List Cell) (main : Thread) (few : main.locals ≤ 2 ^ 32) (lines : length main.code ≤ 2 ^ 32) (names : HasNames cells) where
   jump_found : (j : ℕ) → j < length main.code → number_of (labels_of main) (label_text j) ≡ Some (place_of main j)
@@ -81,7 +81,7 @@ module _ (cells : List Cell) (main : Thread) (few : main.locals ≤ 2 ^ 32) (lin
       subst (λ text. Rest cells main text (state main t a ls) (statements main t (i ∷ is) ++ instr.End ∷ [])) (sym (append_assoc (line_text cells k i) (code_text cells (k + 1) is) (codes "}\n")))
       (line_rest i is k m t a ls small.0
       (omega (arith, size_left, sum_by-cons size i is, statements_size main (t + fresh i) is, length-append (statements main (t + fresh i) is) (instr.End ∷ [])))
-      (λ b. code_rest is (k + 1) (m + size i) (t + fresh i) b (flat.named (label_text k) m ∷ ls) small.1 (omega (arith, size_left, sum_by-cons size i is)) (omega (arith, fresh_left, sum_by-cons fresh i is)) labels))
+      (λ b. code_rest is (k + 1) (m + size i) (t + fresh i) b (flat.numbered (label_text k) m ∷ ls) small.1 (omega (arith, size_left, sum_by-cons size i is)) (omega (arith, fresh_left, sum_by-cons fresh i is)) labels))
 
 -- ---- the declarations
 

@@ -21,8 +21,8 @@ use Rattle.mm_parse_expr.specs.declared.symbol.Keyword.TheVariants as reserved
 use Rattle.mm_parse_expr.specs.declared.symbol.Symbol.TheVariants as symbol
 use Rattle.mm_parse_expr.specs.Grammar as expr
 use Rattle.mm_parse_expr.specs.Symbols.{word_symbol}
-use Rattle.mm_parse.specs.Nesting.{limits, deep_behind}
-use Rattle.mm_parse.specs.StatementGrammar as g
+use Rattle.mm_grammar.specs.Nesting.{limits, deep_behind}
+use Rattle.mm_grammar.specs.StatementGrammar as g
 use Rattle.mm_tree.specs.declared.side.Side.TheVariants.{Output}
 use Rattle.mm_print.specs.SmallListing.{IsSmallExpr}
 use Rattle.mm_print.specs.SmallText.{written, local_text, label_text, cell_text, instr_text, line_text}
@@ -43,7 +43,7 @@ module _ (cells : List Cell) (main : Thread) (few : main.locals ≤ 2 ^ 32) wher
       (local_says l refl (blank_says (assign_says (name_says (cell_text cells c) d refl (semicolon_says s)))))
 
   -- a load reads into a local of its own
-  pub load_rest : (k m t a l c : ℕ) (ls : List Named) {text : List ℕ} {instrs : List Instr} → m + (2 + length instrs) ≡ end_of main + 1 → l < main.locals → HasPlace cells (cell_text cells c) c → IsDeclarable (cell_text cells c) → Rest cells main text (state main (t + 1) a (flat.named (label_text k) m ∷ ls)) instrs → Rest cells main (line_text cells k (instr.Load l (target.Cell c)) ++ text) (state main t a ls) (instr.Load t (target.Cell c) ∷ instr.Set l (the_local t) ∷ instrs)
+  pub load_rest : (k m t a l c : ℕ) (ls : List Named) {text : List ℕ} {instrs : List Instr} → m + (2 + length instrs) ≡ end_of main + 1 → l < main.locals → HasPlace cells (cell_text cells c) c → IsDeclarable (cell_text cells c) → Rest cells main text (state main (t + 1) a (flat.numbered (label_text k) m ∷ ls)) instrs → Rest cells main (line_text cells k (instr.Load l (target.Cell c)) ++ text) (state main t a ls) (instr.Load t (target.Cell c) ∷ instr.Set l (the_local t) ∷ instrs)
   load_rest k m t a l c ls {text = text} {instrs = instrs} there h has d s = record {
     signs = named (label_text k) ∷ colon ∷ named (local_text l) ∷ assign ∷ named (cell_text cells c) ∷ semicolon ∷ s.signs;
     says = line_says k (instr_text cells (instr.Load l (target.Cell c))) text _ (load_says l c d (newline_says s.says));
@@ -73,7 +73,7 @@ module _ (cells : List Cell) (main : Thread) (few : main.locals ≤ 2 ^ 32) wher
   store_shallow k x (IsSmallExpr.local l h) ss ps = (skipped 6 ps, refl)
   store_shallow k x (IsSmallExpr.equal l n h i) ss ps = (skipped 8 ps, refl)
 
-  pub store_rest : (k m t a c : ℕ) {e : Pure} (d : IsSmallExpr main.locals e) (ls : List Named) {text : List ℕ} {instrs : List Instr} → m + (1 + length instrs) ≡ end_of main + 1 → HasPlace cells (cell_text cells c) c → IsDeclarable (cell_text cells c) → Rest cells main text (state main t a (flat.named (label_text k) m ∷ ls)) instrs → Rest cells main (line_text cells k (instr.Store (target.Cell c) e) ++ text) (state main t a ls) (instr.Store (target.Cell c) e ∷ instrs)
+  pub store_rest : (k m t a c : ℕ) {e : Pure} (d : IsSmallExpr main.locals e) (ls : List Named) {text : List ℕ} {instrs : List Instr} → m + (1 + length instrs) ≡ end_of main + 1 → HasPlace cells (cell_text cells c) c → IsDeclarable (cell_text cells c) → Rest cells main text (state main t a (flat.numbered (label_text k) m ∷ ls)) instrs → Rest cells main (line_text cells k (instr.Store (target.Cell c) e) ++ text) (state main t a ls) (instr.Store (target.Cell c) e ∷ instrs)
   store_rest k m t a c {e = e} d ls {text = text} {instrs = instrs} there has name s = record {
     signs = named (label_text k) ∷ colon ∷ named (cell_text cells c) ∷ assign ∷ (expr_signs d ++ semicolon ∷ s.signs);
     says = line_says k (instr_text cells (instr.Store (target.Cell c) e)) text _ (store_says c d name (newline_says s.says));
@@ -115,7 +115,7 @@ module _ (cells : List Cell) (main : Thread) (few : main.locals ≤ 2 ^ 32) wher
   assert_shallow k text (IsSmallExpr.local l h) ss ps = (skipped 9 ps, refl)
   assert_shallow k text (IsSmallExpr.equal l n h i) ss ps = (skipped 11 ps, refl)
 
-  pub assert_rest : (k m t a n : ℕ) → n < 2 ^ 32 → {e : Pure} (d : IsSmallExpr main.locals e) (ls : List Named) {text : List ℕ} {instrs : List Instr} → m + (1 + length instrs) ≡ end_of main + 1 → Rest cells main text (state main t (a + 1) (flat.named (label_text k) m ∷ ls)) instrs → Rest cells main (line_text cells k (instr.Assert e n) ++ text) (state main t a ls) (instr.Assert e n ∷ instrs)
+  pub assert_rest : (k m t a n : ℕ) → n < 2 ^ 32 → {e : Pure} (d : IsSmallExpr main.locals e) (ls : List Named) {text : List ℕ} {instrs : List Instr} → m + (1 + length instrs) ≡ end_of main + 1 → Rest cells main text (state main t (a + 1) (flat.numbered (label_text k) m ∷ ls)) instrs → Rest cells main (line_text cells k (instr.Assert e n) ++ text) (state main t a ls) (instr.Assert e n ∷ instrs)
   assert_rest k m t a n small {e = e} d ls {text = text} {instrs = instrs} there s = record {
     signs = named (label_text k) ∷ colon ∷ keyword reserved.ProverAssert (codes "__CPROVER_assert") ∷ open_mark ∷ (expr_signs d ++ comma ∷ quoted (codes "assertion " ++ decimal n) ∷ close_mark ∷ semicolon ∷ s.signs);
     says = line_says k (instr_text cells (instr.Assert e n)) text _ (assert_says n small d (newline_says s.says));
@@ -146,7 +146,7 @@ module _ (cells : List Cell) (main : Thread) (few : main.locals ≤ 2 ^ 32) wher
       shape : (x : List ℕ) → codes "goto " ++ x ++ codes ";" ++ text ≡ codes "goto" ++ 32 ∷ (x ++ 59 ∷ text)
       shape x = simp append_assoc
 
-  pub jump_rest : (k m t a j n : ℕ) (ls : List Named) {text : List ℕ} {instrs : List Instr} → m + (1 + length instrs) ≡ end_of main + 1 → number_of (labels_of main) (label_text j) ≡ Some n → Rest cells main text (state main t a (flat.named (label_text k) m ∷ ls)) instrs → Rest cells main (line_text cells k (instr.Jump j) ++ text) (state main t a ls) (instr.Jump n ∷ instrs)
+  pub jump_rest : (k m t a j n : ℕ) (ls : List Named) {text : List ℕ} {instrs : List Instr} → m + (1 + length instrs) ≡ end_of main + 1 → number_of (labels_of main) (label_text j) ≡ Some n → Rest cells main text (state main t a (flat.numbered (label_text k) m ∷ ls)) instrs → Rest cells main (line_text cells k (instr.Jump j) ++ text) (state main t a ls) (instr.Jump n ∷ instrs)
   jump_rest k m t a j n ls {text = text} {instrs = instrs} there found s = record {
     signs = named (label_text k) ∷ colon ∷ keyword reserved.Goto (codes "goto") ∷ named (label_text j) ∷ semicolon ∷ s.signs;
     says = line_says k (instr_text cells (instr.Jump j)) text _ (jump_says j (newline_says s.says));
@@ -170,7 +170,7 @@ module _ (cells : List Cell) (main : Thread) (few : main.locals ≤ 2 ^ 32) wher
       let n : Says (48 ∷ 59 ∷ text) (number 0 ∷ semicolon ∷ ss) = subst (λ t. Says (t ++ 59 ∷ text) (number 0 ∷ semicolon ∷ ss)) zero_text (number_says 0 (omega arith) refl (semicolon_says s)) in
       ascii_says (codes "return") (symbol.Keyword reserved.Return) refl refl refl (blank_says n)
 
-  pub return_rest : (k m t a : ℕ) (ls : List Named) {text : List ℕ} {instrs : List Instr} → m + (1 + length instrs) ≡ end_of main + 1 → Rest cells main text (state main t a (flat.named (label_text k) m ∷ ls)) instrs → Rest cells main (line_text cells k instr.End ++ text) (state main t a ls) (instr.Jump (end_of main) ∷ instrs)
+  pub return_rest : (k m t a : ℕ) (ls : List Named) {text : List ℕ} {instrs : List Instr} → m + (1 + length instrs) ≡ end_of main + 1 → Rest cells main text (state main t a (flat.numbered (label_text k) m ∷ ls)) instrs → Rest cells main (line_text cells k instr.End ++ text) (state main t a ls) (instr.Jump (end_of main) ∷ instrs)
   return_rest k m t a ls {text = text} {instrs = instrs} there s = record {
     signs = named (label_text k) ∷ colon ∷ keyword reserved.Return (codes "return") ∷ number 0 ∷ semicolon ∷ s.signs;
     says = line_says k (instr_text cells instr.End) text _ (return_says (newline_says s.says));

@@ -11,6 +11,9 @@ use Rattle.mm_goto.specs.declared.program.Cell.{Cell}
 use Rattle.mm_goto.specs.declared.program.Instr.{Instr}
 use Rattle.mm_goto.specs.declared.program.Instr.TheVariants as instr
 use Rattle.mm_goto.specs.declared.program.Thread.{Thread}
+use Rattle.mm_goto.specs.declared.model.Model.{Model}
+use Rattle.mm_goto.specs.declared.model.Model.TheVariants.{Tso, Pso}
+use Rattle.mm_goto.specs.Bounds.{Bounding}
 use Rattle.mm_goto.specs.Listing.{Listing, unplaced, without_places}
 use Rattle.mm_lexer.specs.declared.token.LexFault.{LexFault}
 use Rattle.mm_lexer.specs.declared.token.Token.{Token}
@@ -24,17 +27,17 @@ use Rattle.mm_tree.specs.declared.item.Tree.{Tree}
 use Rattle.mm_tree.specs.declared.side.Side.TheVariants.{Output}
 use Rattle.mm_flat.specs.Flattening.{AreCells, IsFlat}
 use Rattle.mm_flat.proofs.Programs.{one_listing}
-use Rattle.mm_parse.proofs.ProgramComplete.{one_program as one_tree}
+use Rattle.mm_grammar.proofs.ProgramComplete.{one_program as one_tree}
 use Rattle.mm_goto.specs.Names.{IsDeclarable}
 use Rattle.std.proofs.lemmas.List.Elements.{recursion_from_All}
 use Rattle.mm_parse_expr.specs.declared.symbol.Keyword.TheVariants as reserved
 use Rattle.mm_parse_expr.specs.declared.symbol.Symbol.TheVariants as symbol
 use Rattle.mm_parse_expr.specs.Symbols.{word_symbol}
 use Rattle.mm_parse_expr.specs.Terminals.{terminal_of}
-use Rattle.mm_parse.specs.Meaning.{IsProgramOf}
-use Rattle.mm_parse.specs.Nesting.{deep_at}
-use Rattle.mm_parse.specs.ProgramGrammar as g
-use Rattle.mm_parse.specs.ProgramGrammar.{AreItems, IsProgram}
+use Rattle.mm_print.specs.Meaning.{IsProgramOf}
+use Rattle.mm_grammar.specs.Nesting.{deep_at}
+use Rattle.mm_grammar.specs.ProgramGrammar as g
+use Rattle.mm_grammar.specs.ProgramGrammar.{AreItems, IsProgram}
 use Rattle.mm_print.specs.SmallListing.{IsSmallCell, IsSmallInstr, IsSmallListing}
 use Rattle.mm_print.specs.SmallText.{name_in, cell_text, global_text, main_text, head_text, small_text, no_thread}
 use Rattle.mm_print.specs.Woven.{woven, woven_main}
@@ -45,24 +48,38 @@ use Rattle.mm_print.proofs.Signs.{Sign, AreSigns, named, keyword, lexeme, semico
 
 -- ---- the head
 
--- what stands in the comment of the head line
-comment_text : ℕ → List ℕ
-comment_text bound = codes " goto-mm 1 tso " ++ (decimal bound ++ 32 ∷ [])
+-- what stands in the comment of the head line, before the bound and in all
+abbrev front : Model → List ℕ
+front Tso = codes " goto-mm 1 tso "
+front Pso = codes " goto-mm 1 pso "
+
+comment_text : Model → Bounding → List ℕ
+comment_text m bound = front m ++ (decimal bound ++ 32 ∷ [])
 
 -- the head line and the include line, in front of the rest
-lines_text : ℕ → List ℕ → List ℕ
-lines_text bound text = 47 ∷ 42 ∷ (comment_text bound ++ 42 ∷ 47 ∷ 10 ∷ 35 ∷ (codes "include <pthread.h>" ++ 10 ∷ text))
+lines_text : Model → Bounding → List ℕ → List ℕ
+lines_text m bound text = 47 ∷ 42 ∷ (comment_text m bound ++ 42 ∷ 47 ∷ 10 ∷ 35 ∷ (codes "include <pthread.h>" ++ 10 ∷ text))
 
-head_shape : (bound : ℕ) (text : List ℕ) → head_text bound ++ text ≡ lines_text bound (codes "int nondet_wm();\n" ++ text)
+head_shape : (m : Model) (bound : Bounding) (text : List ℕ) → head_text m bound ++ text ≡ lines_text m bound (codes "int nondet_wm();\n" ++ text)
 unfolding head_text lines_text comment_text
-head_shape bound text = simp append_assoc
+head_shape Tso bound text = simp append_assoc
+head_shape Pso bound text = simp append_assoc
 
-comment_all : (p : ℕ → Bool) → list_all p (codes " goto-mm 1 tso " ++ 32 ∷ []) ≡ true → ((d : ℕ) → d < 10 → p (48 + d) ≡ true) → (bound : ℕ) → list_all p (comment_text bound) ≡ true
+-- a test that the words, the blanks and the digits of the comment pass is passed by the whole of it
+comment_all : (p : ℕ → Bool) → ((m : Model) → list_all p (front m ++ 32 ∷ []) ≡ true) → ((d : ℕ) → d < 10 → p (48 + d) ≡ true) → (m : Model) (bound : Bounding) → list_all p (comment_text m bound) ≡ true
 unfolding comment_text
-comment_all p literal digit bound =
-    list_all-append p (codes " goto-mm 1 tso ") (decimal bound ++ 32 ∷ [])
-    ∙ ap (λ b. list_all p (codes " goto-mm 1 tso ") && b) (list_all-append p (decimal bound) (32 ∷ []) ∙ ap (λ b. b && list_all p (32 ∷ [])) (digits_all p digit bound))
-    ∙ sym (list_all-append p (codes " goto-mm 1 tso ") (32 ∷ [])) ∙ literal
+comment_all p words digit m bound =
+    list_all-append p (front m) (decimal bound ++ 32 ∷ [])
+    ∙ ap (λ b. list_all p (front m) && b) (list_all-append p (decimal bound) (32 ∷ []) ∙ ap (λ b. b && list_all p (32 ∷ [])) (digits_all p digit bound))
+    ∙ sym (list_all-append p (front m) (32 ∷ [])) ∙ words m
+
+words_no_star : (m : Model) → list_all (λ c. not (c == 42)) (front m ++ 32 ∷ []) ≡ true
+words_no_star Tso = refl
+words_no_star Pso = refl
+
+words_ascii : (m : Model) → list_all is_ascii (front m ++ 32 ∷ []) ≡ true
+words_ascii Tso = refl
+words_ascii Pso = refl
 
 digit_no_star : (d : ℕ) → d < 10 → not ((48 + d) == 42) ≡ true
 digit_no_star d h = grind (arith, nat_tests)
@@ -71,13 +88,13 @@ digit_ascii : (d : ℕ) → d < 10 → is_ascii (48 + d) ≡ true
 digit_ascii d h = grind (arith, nat_tests)
 
 -- the lines are ASCII
-lines_ascii : (bound : ℕ) → list_all is_ascii (lines_text bound []) ≡ true
+lines_ascii : (m : Model) (bound : Bounding) → list_all is_ascii (lines_text m bound []) ≡ true
 unfolding lines_text
-lines_ascii bound = list_all-append is_ascii (comment_text bound) (42 ∷ 47 ∷ 10 ∷ 35 ∷ (codes "include <pthread.h>" ++ 10 ∷ [])) ∙ ap (λ b. b && list_all is_ascii (42 ∷ 47 ∷ 10 ∷ 35 ∷ (codes "include <pthread.h>" ++ 10 ∷ []))) (comment_all is_ascii refl digit_ascii bound)
+lines_ascii m bound = list_all-append is_ascii (comment_text m bound) (42 ∷ 47 ∷ 10 ∷ 35 ∷ (codes "include <pthread.h>" ++ 10 ∷ [])) ∙ ap (λ b. b && list_all is_ascii (42 ∷ 47 ∷ 10 ∷ 35 ∷ (codes "include <pthread.h>" ++ 10 ∷ []))) (comment_all is_ascii words_ascii digit_ascii m bound)
 
-lines_front : (bound : ℕ) (text : List ℕ) → lines_text bound [] ++ text ≡ lines_text bound text
+lines_front : (m : Model) (bound : Bounding) (text : List ℕ) → lines_text m bound [] ++ text ≡ lines_text m bound text
 unfolding lines_text
-lines_front bound text = simp append_assoc
+lines_front m bound text = simp append_assoc
 
 -- the text is cut into these tokens, from its first line on
 record Begins (text : List ℕ) (ss : List Sign) : Type 0 where
@@ -85,16 +102,16 @@ record Begins (text : List ℕ) (ss : List Sign) : Type 0 where
   spells : Spells true (chars text) (map lexeme ss)
   signs : AreSigns ss
 
-lines_spell : (bound : ℕ) {text : List ℕ} {ss : List Sign} → Says text ss → Spells true (lines_text bound (chars text)) (map lexeme ss)
+lines_spell : (m : Model) (bound : Bounding) {text : List ℕ} {ss : List Sign} → Says text ss → Spells true (lines_text m bound (chars text)) (map lexeme ss)
 unfolding lines_text
-lines_spell bound {text = text} {ss = ss} s =
-    comment_on true (comment_text bound) _ (map lexeme ss) (comment_all (λ c. not (c == 42)) refl digit_no_star bound)
+lines_spell m bound {text = text} {ss = ss} s =
+    comment_on true (comment_text m bound) _ (map lexeme ss) (comment_all (λ c. not (c == 42)) words_no_star digit_no_star m bound)
     (newline_on false _ (map lexeme ss) (include_on (codes "include <pthread.h>") (10 ∷ chars text) (map lexeme ss) refl refl refl (newline_on false (chars text) (map lexeme ss) (anywhere s.spells true))))
 
-lines_begin : (bound : ℕ) {text : List ℕ} {ss : List Sign} → Says text ss → Begins (lines_text bound text) ss
-lines_begin bound {text = text} {ss = ss} s = record {
-  utf8 = subst IsUtf8 (lines_front bound text) (ascii_word_utf8 (lines_text bound []) text (lines_ascii bound) s.utf8);
-  spells = subst (λ cs. Spells true cs (map lexeme ss)) (sym (ap chars (sym (lines_front bound text)) ∙ ascii_word (lines_text bound []) text (lines_ascii bound) ∙ lines_front bound (chars text))) (lines_spell bound s);
+lines_begin : (m : Model) (bound : Bounding) {text : List ℕ} {ss : List Sign} → Says text ss → Begins (lines_text m bound text) ss
+lines_begin m bound {text = text} {ss = ss} s = record {
+  utf8 = subst IsUtf8 (lines_front m bound text) (ascii_word_utf8 (lines_text m bound []) text (lines_ascii m bound) s.utf8);
+  spells = subst (λ cs. Spells true cs (map lexeme ss)) (sym (ap chars (sym (lines_front m bound text)) ∙ ascii_word (lines_text m bound []) text (lines_ascii m bound) ∙ lines_front m bound (chars text))) (lines_spell m bound s);
   signs = s.signs;
 }
 
@@ -113,10 +130,10 @@ record Text (cells : List Cell) (main : Thread) (text : List ℕ) : Type 0 where
   shallow : (ps : List At) → deep_at Output (laid ps signs) ≡ None
   read : (ps : List At) → ItemsRead cells main cells (laid ps signs)
 
-whole : {cells : List Cell} {main : Thread} {text : List ℕ} (bound : ℕ) → Items cells main text cells → Text cells main (head_text bound ++ text)
-whole {cells = cells} {main = main} {text = text} bound s = record {
+whole : {cells : List Cell} {main : Thread} {text : List ℕ} (m : Model) (bound : Bounding) → Items cells main text cells → Text cells main (head_text m bound ++ text)
+whole {cells = cells} {main = main} {text = text} m bound s = record {
   signs = keyword reserved.Int (codes "int") ∷ named (codes "nondet_wm") ∷ open_mark ∷ close_mark ∷ semicolon ∷ s.signs;
-  begins = subst (λ t. Begins t (keyword reserved.Int (codes "int") ∷ named (codes "nondet_wm") ∷ open_mark ∷ close_mark ∷ semicolon ∷ s.signs)) (sym (head_shape bound text)) (lines_begin bound (input_says s.says));
+  begins = subst (λ t. Begins t (keyword reserved.Int (codes "int") ∷ named (codes "nondet_wm") ∷ open_mark ∷ close_mark ∷ semicolon ∷ s.signs)) (sym (head_shape m bound text)) (lines_begin m bound (input_says s.says));
   shallow = λ ps. s.shallow (skipped 5 ps);
   read = λ ps. let r = s.read (skipped 5 ps) in record {
     items = _;
@@ -202,17 +219,17 @@ small_code : (cells : List Cell) (main : Thread) (body : List Instr) → AllByRe
 small_code cells main [] h = (inr refl, tt)
 small_code cells main (i ∷ is) h = (inl h.0, small_code cells main is h.1)
 
-means : (p : Listing) (bound : ℕ) → IsSmallListing p → Means (small_text p bound) p
-means p bound s =
+means : (p : Listing) (m : Model) (bound : Bounding) → IsSmallListing p → Means (small_text p m bound) p
+means p m bound s =
     let cells = recursion_from_All IsSmallCell p.cells s.cells in
     let small : AreSmall p.cells s.main s.main.code = subst (AreSmall p.cells s.main) (sym s.code) (small_code p.cells s.main s.body (recursion_from_All (IsSmallInstr p.cells s.main) s.body s.instrs)) in
     let items = globals_items p.cells s.main p.cells cells (main_items p.cells s.main (omega (arith, s.few_locals)) (omega (arith, s.few_lines)) (small_names p.cells cells s.apart) small) in
-    let text : head_text bound ++ (flat_map global_text p.cells ++ main_text p.cells s.main) ≡ small_text p bound =
-    sym (append_assoc (head_text bound) (flat_map global_text p.cells) (main_text p.cells s.main)) ∙ ap (λ ts. head_text bound ++ flat_map global_text p.cells ++ main_text p.cells (slice_index_or ts 0 no_thread)) (sym s.alone) in
-    means_of p s.main (small_text p bound) s.mutexes s.alone (subst (Text p.cells s.main) text (whole bound items))
+    let text : head_text m bound ++ (flat_map global_text p.cells ++ main_text p.cells s.main) ≡ small_text p m bound =
+    sym (append_assoc (head_text m bound) (flat_map global_text p.cells) (main_text p.cells s.main)) ∙ ap (λ ts. head_text m bound ++ flat_map global_text p.cells ++ main_text p.cells (slice_index_or ts 0 no_thread)) (sym s.alone) in
+    means_of p s.main (small_text p m bound) s.mutexes s.alone (subst (Text p.cells s.main) text (whole m bound items))
 
-pub accepted : (p : Listing) (bound : ℕ) → IsSmallListing p → (q : Listing) × IsProgramOf Output (small_text p bound) q
-accepted p bound s = let m = means p bound s in (m.listing, m.program)
+pub accepted : (p : Listing) (m : Model) (bound : Bounding) → IsSmallListing p → (q : Listing) × IsProgramOf Output (small_text p m bound) q
+accepted p m bound s = let means = means p m bound s in (means.listing, means.program)
 
 -- ---- a text has one program
 
@@ -223,5 +240,5 @@ one_program text p q a b =
     let tree = one_tree (map (terminal_of text) a.read.tokens) b.tree a.tree parsed a.read.parsed in
     one_listing Output a.tree p q a.flat (subst (λ t. IsFlat Output t q) tree b.flat)
 
-pub woven_text : (p q : Listing) (bound : ℕ) → IsSmallListing p → IsProgramOf Output (small_text p bound) q → without_places q ≡ woven p
-woven_text p q bound s d = let m = means p bound s in ap without_places (one_program (small_text p bound) q m.listing d m.program) ∙ m.same
+pub woven_text : (p q : Listing) (m : Model) (bound : Bounding) → IsSmallListing p → IsProgramOf Output (small_text p m bound) q → without_places q ≡ woven p
+woven_text p q m bound s d = let means = means p m bound s in ap without_places (one_program (small_text p m bound) q means.listing d means.program) ∙ means.same

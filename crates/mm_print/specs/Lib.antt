@@ -1,3 +1,4 @@
+pub mod Meaning
 pub mod SmallListing
 pub mod SmallText
 pub mod Woven

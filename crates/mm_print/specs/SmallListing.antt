@@ -13,16 +13,34 @@ use Rattle.mm_goto.specs.Terms.{constant, the_local, combined}
 
 -- a number, one of so many locals, or whether the local has the number
 pub data IsSmallExpr (locals : ℕ) : Pure → Type 0 where
-  number : (n : ℕ) → n < 2 ^ 31 → IsSmallExpr locals (constant (pos n))
-  local : (l : ℕ) → l < locals → IsSmallExpr locals (the_local l)
-  equal : (l n : ℕ) → l < locals → n < 2 ^ 31 → IsSmallExpr locals (combined binary.Eq (the_local l) (constant (pos n)))
+  number : (n : ℕ)
+      → n < 2 ^ 31
+      → IsSmallExpr locals (constant (pos n))
+  local : (l : ℕ)
+      → l < locals
+      → IsSmallExpr locals (the_local l)
+  equal : (l n : ℕ)
+      → l < locals
+      → n < 2 ^ 31
+      → IsSmallExpr locals (combined binary.Eq (the_local l) (constant (pos n)))
 
 -- a load, a store, an assertion, or the jump to the end
 pub data IsSmallInstr (cells : List Cell) (t : Thread) : Instr → Type 0 where
-  load : (l c : ℕ) → l < t.locals → c < length cells → IsSmallInstr cells t (Load l (target.Cell c))
-  store : (c : ℕ) (e : Pure) → c < length cells → IsSmallExpr t.locals e → IsSmallInstr cells t (Store (target.Cell c) e)
-  assert : (e : Pure) (n : ℕ) → n < 2 ^ 32 → IsSmallExpr t.locals e → IsSmallInstr cells t (Assert e n)
-  jump : (k : ℕ) → k < length t.code → IsSmallInstr cells t (Jump k)
+  load : (l c : ℕ)
+      → l < t.locals
+      → c < length cells
+      → IsSmallInstr cells t (Load l (target.Cell c))
+  store : (c : ℕ) (e : Pure)
+      → c < length cells
+      → IsSmallExpr t.locals e
+      → IsSmallInstr cells t (Store (target.Cell c) e)
+  assert : (e : Pure) (n : ℕ)
+      → n < 2 ^ 32
+      → IsSmallExpr t.locals e
+      → IsSmallInstr cells t (Assert e n)
+  jump : (k : ℕ)
+      → k < length t.code
+      → IsSmallInstr cells t (Jump k)
 
 -- an int that is no array, under a name that a source may declare, with a start value that is not negative
 pub record IsSmallCell (cell : Cell) : Type 0 where

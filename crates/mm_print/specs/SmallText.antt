@@ -2,6 +2,7 @@
 use Rattle.std.specs.Prelude.{ℕ, zero, suc, ◌+◌, Bool, true, false, List, [], ◌∷◌, ◌++◌, codes, slice_get, Option, Some, None}
 use Rattle.std.specs.List.{flat_map, slice_index_or}
 use Rattle.std.specs.Fmt.{decimal, signed_decimal}
+use Rattle.mm_goto.specs.declared.model.Model.{Model}
 use Rattle.mm_goto.specs.declared.pure.Unary.{Unary}
 use Rattle.mm_goto.specs.declared.pure.Unary.TheVariants as unary
 use Rattle.mm_goto.specs.declared.pure.Binary.{Binary}
@@ -14,7 +15,9 @@ use Rattle.mm_goto.specs.declared.program.Instr.{Instr}
 use Rattle.mm_goto.specs.declared.program.Instr.TheVariants as instr
 use Rattle.mm_goto.specs.declared.program.Cell.{Cell}
 use Rattle.mm_goto.specs.declared.program.Thread.{Thread}
+use Rattle.mm_goto.specs.Bounds.{Bounding, greatest}
 use Rattle.mm_goto.specs.Listing.{Listing}
+use Rattle.mm_goto.specs.Models.{word_of}
 
 -- ---- expressions
 
@@ -130,10 +133,11 @@ main_text cells main = codes "int main(void) {\n" ++ locals_text main.locals ++ 
 abbrev pub no_thread : Thread
 no_thread = record { locals = 0; code = []; places = [] }
 
--- the head line with the bound, the include line, and the declaration of the inputs
-unfoldable pub head_text : ℕ → List ℕ
-head_text bound = codes "/* goto-mm 1 tso " ++ decimal bound ++ codes " */\n#include <pthread.h>\nint nondet_wm();\n"
+-- the head line with the model and the bound, the include line, and the declaration of the inputs
+unfoldable pub head_text : Model → Bounding → List ℕ
+head_text m bound =
+    codes "/* goto-mm 1 " ++ word_of m ++ codes " " ++ decimal (greatest bound) ++ codes " */\n#include <pthread.h>\nint nondet_wm();\n"
 
 -- the head, the globals, and main
-abbrev pub small_text : Listing → ℕ → List ℕ
-small_text p bound = head_text bound ++ flat_map global_text p.cells ++ main_text p.cells (slice_index_or p.threads 0 no_thread)
+abbrev pub small_text : Listing → Model → Bounding → List ℕ
+small_text p m bound = head_text m bound ++ flat_map global_text p.cells ++ main_text p.cells (slice_index_or p.threads 0 no_thread)

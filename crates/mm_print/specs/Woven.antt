@@ -43,7 +43,11 @@ declaration l = Set l (constant (pos 0))
 
 -- main of the woven program; no machine reads the places
 abbrev pub woven_main : Thread → Thread
-woven_main main = record { locals = main.locals + sum_by fresh main.code; code = map declaration (range_with_len 0 main.locals) ++ statements main main.locals main.code ++ End ∷ []; places = [] }
+woven_main main = record {
+  locals = main.locals + sum_by fresh main.code;
+  code = map declaration (range_with_len 0 main.locals) ++ statements main main.locals main.code ++ End ∷ [];
+  places = [];
+}
 
 -- the woven program: the same cells, and each thread woven
 abbrev pub woven : Listing → Listing

@@ -1,14 +1,16 @@
 //! What the printed text means.
-ghost use Rattle.std.specs.Prelude.{◌≡◌, ℕ};
+ghost use Rattle.std.specs.Prelude.{◌≡◌};
+ghost use Rattle.mm_goto.specs.declared.model.Model.{Model as ModelOf};
+ghost use Rattle.mm_goto.specs.Bounds.{Bounding};
 ghost use Rattle.mm_goto.specs.Listing.{Listing, without_places};
 ghost use Rattle.mm_tree.specs.declared.side.Side.TheVariants.{Output};
-ghost use Rattle.mm_parse.specs.Meaning.{IsProgramOf};
+ghost use Rattle.mm_print.specs.Meaning.{IsProgramOf};
 ghost use Rattle.mm_print.specs.SmallListing.{IsSmallListing};
 ghost use Rattle.mm_print.specs.SmallText.{small_text};
 ghost use Rattle.mm_print.specs.Woven.{woven};
 
 /// The printed text of a small program is accepted, and its goto program is the woven program.
 pub fn printed_text_is_the_woven_program()
-    ensures accepted { (p : Listing) (bound : ℕ) → IsSmallListing p → (q : Listing) × IsProgramOf Output (small_text p bound) q }
-    ensures woven { (p q : Listing) (bound : ℕ) → IsSmallListing p → IsProgramOf Output (small_text p bound) q → without_places q ≡ woven p }
+    ensures accepted { (p : Listing) (m : ModelOf) (bound : Bounding) → IsSmallListing p → (q : Listing) × IsProgramOf Output (small_text p m bound) q }
+    ensures woven { (p q : Listing) (m : ModelOf) (bound : Bounding) → IsSmallListing p → IsProgramOf Output (small_text p m bound) q → without_places q ≡ woven p }
 {}

@@ -3,7 +3,7 @@ ghost use Rattle.std.specs.List.{flat_map};
 ghost use Rattle.mm_print.specs.SmallText.{local_text, unary_mark, binary_mark, opening, closing, operand, written, cell_text, label_text, instr_text, line_text, code_text, global_text, locals_text, main_text, head_text, small_text};
 
 use mm_goto::text::{put, put_int, put_number};
-use mm_goto::{Binary, Bound, Cell, Instr, NoMemory, Program, Pure, Target, Thread, Unary};
+use mm_goto::{Binary, Bound, Cell, Instr, Model, NoMemory, Program, Pure, Target, Thread, Unary};
 use std::alloc::Global;
 
 fn put_local(alloc: Global, out: &mut String, local: u32) -> Result<(), NoMemory>
@@ -233,20 +233,27 @@ fn put_main(alloc: Global, out: &mut String, cells: &[Cell], main: &Thread) -> R
 }
 
 #[tactic(auto, unfolding(crate::specs::SmallText::head_text))]
-fn put_head(alloc: Global, out: &mut String, bound: Bound) -> Result<(), NoMemory>
-    ensures { OnOk result (string_bytes out.new ≡ string_bytes out.old ++ head_text bound) }
+fn put_head(alloc: Global, out: &mut String, model: Model, bound: Bound) -> Result<(), NoMemory>
+    ensures { OnOk result (string_bytes out.new ≡ string_bytes out.old ++ head_text model bound) }
 {
-    put(out, "/* goto-mm 1 tso ")?;
+    put(out, "/* goto-mm 1 ")?;
+    put(out, model.word())?;
+    put(out, " ")?;
     put_number(alloc, out, u64::from(bound.get()))?;
     put(out, " */\n#include <pthread.h>\nint nondet_wm();\n")
 }
 
-/// The printed text of the woven program of a small program, for TSO: no store of it is buffered.
-pub fn print_small(alloc: Global, program: &Program, bound: Bound) -> Result<String, NoMemory>
-    ensures { IfOk result (λ text. string_bytes text ≡ small_text program.now bound) }
+/// The printed text of the woven program of a small program, for the model and the bound: no store of it is buffered.
+pub fn print_small(
+    alloc: Global,
+    program: &Program,
+    model: Model,
+    bound: Bound,
+) -> Result<String, NoMemory>
+    ensures { IfOk result (λ text. string_bytes text ≡ small_text program.now model bound) }
 {
     let mut out = String::new(alloc);
-    put_head(alloc, &mut out, bound)?;
+    put_head(alloc, &mut out, model, bound)?;
     put_globals(alloc, &mut out, program.cells())?;
     put_main(alloc, &mut out, program.cells(), &program.threads()[0])?;
     Ok(out)

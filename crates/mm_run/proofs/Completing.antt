@@ -4,6 +4,8 @@ use Rattle.std.specs.Io.KnownBytes.{Consumes, IsAtEnd}
 use Rattle.std.specs.Str.{IsValidUpTo}
 use Rattle.std.proofs.Math.Seq.{drop-append_seam, take-append_seam}
 use Rattle.std.proofs.lemmas.Str.{utf8_valid_len-IsUtf8, utf8_valid_len-IsValidUpTo}
+use Rattle.mm_goto.specs.declared.model.Model.{Model}
+use Rattle.mm_goto.specs.Bounds.{Bounding}
 use Rattle.mm_goto.specs.Listing.{Listing}
 use Rattle.mm_sched.specs.declared.entry.Entry.{Entry}
 use Rattle.mm_sched.specs.declared.entry.Rules.{Rules}
@@ -19,10 +21,11 @@ use Rattle.mm_run.specs.declared.status.Status.{Status}
 use Rattle.mm_run.specs.Accepted.{HasParts, IsAccepted, IsRun}
 use Rattle.mm_run.specs.Input.{IsTooLong}
 use Rattle.mm_run.specs.Parts.{IsSplit}
-use Rattle.mm_run.specs.Program.{IsProgramText}
+use Rattle.mm_run.specs.Program.{Intake, IsProgramText, small_source}
+use Rattle.mm_run.specs.Outcome.{IsStuckBehind, Outcome, TellsVerdict}
+use Rattle.mm_run.specs.Answer.{AnswersInput, AnswersParts, AnswersProgram, AnswersText, AnswersWhole, PrintsWoven, Replays, Responds, IsDoneOrKept}
+use Rattle.mm_run.proofs.Answering.{input_responds}
 use Rattle.mm_run.proofs.Refused.{one_program, not_refused}
-use Rattle.mm_run.specs.Replay.{IsStuckBehind, Replays}
-use Rattle.mm_run.specs.Answer.{AnswersText, AnswersWhole, Instruments, ReplaysParts, Responds, IsDoneOrKept}
 
 -- ---- what was read is the input
 
@@ -68,43 +71,49 @@ no_other_end r p from last es k e s =
     let none : run r p from es ≡ None = ahead ∙ ap (λ (o : Option State). option_and_then (λ mid. run r p mid s.behind) o) s.stuck in
     cc
 
-module _ (r : Rules) (input : List ℕ) (h : IsRun r input) where
+module _ (taken : Intake) (r : Rules) (input : List ℕ) (h : IsRun taken r input) where
   replayed : (p : Listing) (schedule : List ℕ) (status : Status) (out : List ℕ) → p ≡ h.listing → schedule ≡ h.schedule → Replays r p schedule status out → IsDoneOrKept status
-  replayed p schedule status out same_program same_schedule (Replays.ends lines last s e) = tt
-  replayed p schedule status out same_program same_schedule (Replays.bad k s) = absurd (not_both h.schedule h.lines k h.fits (rw (sym same_schedule) s))
-  replayed p schedule status out same_program same_schedule (Replays.stuck lines k s e) =
+  replayed p schedule status out same_program same_schedule (Outcome.ends lines last s e v) = told (entries_in lines) last status out v
+    where
+      told : (es : List Entry) (last : State) (status : Status) (out : List ℕ) → TellsVerdict es last status out → IsDoneOrKept status
+      told es last status out TellsVerdict.verdict = tt
+  replayed p schedule status out same_program same_schedule (Outcome.bad k s) = absurd (not_both h.schedule h.lines k h.fits (rw (sym same_schedule) s))
+  replayed p schedule status out same_program same_schedule (Outcome.stuck lines k s e) =
       let same : lines ≡ h.lines = one_schedule h.schedule lines h.lines (rw (sym same_schedule) s) h.fits in
       absurd (no_other_end r h.listing (initial h.listing) h.last (entries_in h.lines) k h.runs (rw (sym same, sym same_program) e))
 
-  parts : (status : Status) (out : List ℕ) → ReplaysParts r input status out → IsDoneOrKept status
-  parts status out (ReplaysParts.one_part lacks) = absurd (lacks _ h.split.parting)
-  parts status out (ReplaysParts.refused program schedule s no_program) =
+  parts : (status : Status) (out : List ℕ) → AnswersParts taken (Replays r) input status out → IsDoneOrKept status
+  parts status out (AnswersParts.one_part lacks) = absurd (lacks _ h.split.parting)
+  parts status out (AnswersParts.refused program schedule s no_program) =
       let same : program ≡ h.program = one_front input program h.program schedule h.schedule s h.split in
-      absurd (not_refused h.program h.listing h.accepted status out (rw (sym same) no_program))
-  parts status out (ReplaysParts.both program schedule p s small e) =
+      absurd (not_refused taken h.program h.listing h.accepted status out (rw (sym same) no_program))
+  parts status out (AnswersParts.both program schedule p s small e) =
       let same : program ≡ h.program = one_front input program h.program schedule h.schedule s h.split in
-      replayed p schedule status out (one_program h.program p h.listing (rw (sym same) small) h.accepted) (one_back input program h.program schedule h.schedule s h.split) e
+      replayed p schedule status out (one_program taken h.program p h.listing (rw (sym same) small) h.accepted) (one_back input program h.program schedule h.schedule s h.split) e
 
-instrumented : (bound : ℕ) (input : List ℕ) (p : Listing) → IsProgramText input p → (status : Status) (out : List ℕ) → Instruments bound input status out → IsDoneOrKept status
-instrumented bound input p h status out (Instruments.done w) = tt
-instrumented bound input p h status out (Instruments.refused r) = absurd (not_refused input p h status out r)
+instrumented : (m : Model) (bound : Bounding) (input : List ℕ) (p : Listing) → IsProgramText small_source input p → (status : Status) (out : List ℕ) → AnswersProgram small_source (PrintsWoven m bound) input status out → IsDoneOrKept status
+instrumented m bound input p h status out (AnswersProgram.refused r) = absurd (not_refused small_source input p h status out r)
+instrumented m bound input p h status out (AnswersProgram.program q k w) = printed q status out w
+  where
+    printed : (q : Listing) (status : Status) (out : List ℕ) → PrintsWoven m bound q status out → IsDoneOrKept status
+    printed q status out (PrintsWoven.done w) = tt
 
 -- ---- the answer
 
 done_text : (s : Settings) (input : List ℕ) (status : Status) (out : List ℕ) → HasParts s input → AnswersText s input status out → IsDoneOrKept status
-done_text (Instrument m bound) input status out h a = instrumented bound input h.0 h.1 status out a
-done_text ReplaySc input status out h a = parts _ input h status out a
-done_text (Replay m bound) input status out h a = parts _ input h status out a
+done_text (Instrument m bound) input status out h a = instrumented m bound input h.0 h.1 status out a
+done_text ReplaySc input status out h a = parts small_source _ input h status out a
+done_text (Replay m bound) input status out h a = parts small_source _ input h status out a
 
 done_whole : (s : Settings) (input : List ℕ) (status : Status) (out : List ℕ) → IsAccepted s input → AnswersWhole s input status out → IsDoneOrKept status
 done_whole s input status out h (AnswersWhole.no_text at n) = absurd (is_text input n.front h.text n.longest)
 done_whole s input status out h (AnswersWhole.text u a) = done_text s input status out h.parts a
 
-done : (s : Settings) (xs out : List ℕ) (new : Option (List ℕ)) (status : Status) → Responds s (Some xs) new status out → IsAccepted s xs → length xs ≤ 16777216 → IsDoneOrKept status
-done s xs out new status (Responds.whole bytes w a) h l = let same : xs ≡ bytes = whole_is xs bytes new w.read w.end in done_whole s xs status out h (rw same a)
-done s xs out new status (Responds.too_long t) h l = absurd (not_long xs new t l)
+done : (s : Settings) (xs out : List ℕ) (new : Option (List ℕ)) (status : Status) → AnswersInput s (Some xs) new status out → IsAccepted s xs → length xs ≤ 16777216 → IsDoneOrKept status
+done s xs out new status (AnswersInput.whole bytes w a) h l = let same : xs ≡ bytes = whole_is xs bytes new w.read w.end in done_whole s xs status out h (rw same a)
+done s xs out new status (AnswersInput.too_long t) h l = absurd (not_long xs new t l)
 
-pub complete : (o : Option Settings) (old new : Option (List ℕ)) (s : Settings) (status : Status) (out : List ℕ) → o ≡ Some s → Responds s old new status out → IfSome o (λ s. IfSome old (λ text. IsAccepted s text → length text ≤ 16777216 → IsDoneOrKept status))
-complete None old new s status out e r = tt
-complete (Some o) None new s status out e r = tt
-complete (Some o) (Some xs) new s status out e r = λ h l. let same : o ≡ s = cc in done s xs out new status r (rw (sym same) h) l
+-- where the words ask for one command alone
+pub complete : (s o : Settings) (old new : Option (List ℕ)) (status : Status) (out : List ℕ) → s ≡ o → Responds s old new status out → IfSome old (λ text. IsAccepted o text → length text ≤ 16777216 → IsDoneOrKept status)
+complete s o None new status out e r = tt
+complete s o (Some xs) new status out e r = λ h l. done s xs out new status (input_responds s (Some xs) new status out r) (rw e h) l

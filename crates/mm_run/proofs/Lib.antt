@@ -8,7 +8,9 @@ pub mod Replaying
 pub mod Sectionless
 pub mod Straight
 pub mod Weaving
+pub mod Wording
 pub mod Writing
+mod AnAnswer
 mod OneAnswer
 mod OneAnswerCause
 mod OneAnswerSchedule

@@ -10,7 +10,6 @@ use Rattle.mm_lexer.specs.Tokens.{IsFirstFault}
 use Rattle.mm_lexer.proofs.Unique.{fault_unique, tokens_or_fault, tokens_unique}
 use Rattle.mm_reading.specs.Runs.{Language, IsLongestRun}
 use Rattle.mm_tree.specs.declared.side.Side.{Side}
-use Rattle.mm_tree.specs.declared.side.Side.TheVariants.{Source}
 use Rattle.mm_parse_expr.specs.declared.fault.ParseFault.{ParseFault}
 use Rattle.mm_parse_expr.specs.declared.fault.ParseFault.TheVariants as parse_fault
 use Rattle.mm_parse_expr.specs.Faults.{fault_at}
@@ -18,7 +17,7 @@ use Rattle.mm_parse.specs.Faults.{IsFault}
 use Rattle.mm_run.specs.declared.status.Status.{Status}
 use Rattle.mm_run.specs.Answer.{Refusing}
 use Rattle.mm_run.specs.Lines.{refusal_line}
-use Rattle.mm_run.specs.Program.{HasFault, IsNotBuilt, IsRefused}
+use Rattle.mm_run.specs.Program.{HasFault, Intake, IsNotBuilt, IsRefused}
 use Rattle.mm_run.proofs.Refused.{no_fault, no_parse_fault}
 
 -- ---- the fault of the grammar is one
@@ -48,10 +47,10 @@ data Cause : Type 0 where
   of_grammar : ParseFault → Cause
   not_built : Cause
 
-abbrev HasCause : List ℕ → Cause → Type 0
-HasCause text (Cause.of_tokens fault) = IsFirstFault text fault
-HasCause text (Cause.of_grammar fault) = HasFault text fault
-HasCause text Cause.not_built = IsNotBuilt text
+abbrev HasCause : Intake → List ℕ → Cause → Type 0
+HasCause taken text (Cause.of_tokens fault) = IsFirstFault text fault
+HasCause taken text (Cause.of_grammar fault) = HasFault taken.side text fault
+HasCause taken text Cause.not_built = IsNotBuilt taken text
 
 -- the place of a cause; want of memory refuses no text
 abbrev place_of : Cause → At
@@ -76,44 +75,44 @@ words_of (Cause.of_grammar parse_fault.NoMemory) = []
 words_of Cause.not_built = codes "not built"
 
 -- a text has one cause at most
-one_cause : (text : List ℕ) (a b : Cause) → HasCause text a → HasCause text b → a ≡ b
-one_cause text (Cause.of_tokens f) (Cause.of_tokens g) h k = ap Cause.of_tokens (fault_unique text f g h k)
-one_cause text (Cause.of_tokens f) (Cause.of_grammar g) h k = absurd (tokens_or_fault text k.tokens f k.cut h)
-one_cause text (Cause.of_tokens f) Cause.not_built h k = absurd (no_fault text k.tree k.read f h)
-one_cause text (Cause.of_grammar f) (Cause.of_tokens g) h k = absurd (tokens_or_fault text h.tokens g h.cut k)
-one_cause text (Cause.of_grammar f) (Cause.of_grammar g) h k = ap Cause.of_grammar (one_fault Source text k.tokens f g (subst (λ (ts : List Token). IsFault Source text ts f) (tokens_unique text h.tokens k.tokens h.cut k.cut) h.fails) k.fails)
-one_cause text (Cause.of_grammar f) Cause.not_built h k = absurd (no_parse_fault text k.tree k.read f h)
-one_cause text Cause.not_built (Cause.of_tokens g) h k = absurd (no_fault text h.tree h.read g k)
-one_cause text Cause.not_built (Cause.of_grammar g) h k = absurd (no_parse_fault text h.tree h.read g k)
-one_cause text Cause.not_built Cause.not_built h k = refl
+one_cause : (taken : Intake) (text : List ℕ) (a b : Cause) → HasCause taken text a → HasCause taken text b → a ≡ b
+one_cause taken text (Cause.of_tokens f) (Cause.of_tokens g) h k = ap Cause.of_tokens (fault_unique text f g h k)
+one_cause taken text (Cause.of_tokens f) (Cause.of_grammar g) h k = absurd (tokens_or_fault text k.tokens f k.cut h)
+one_cause taken text (Cause.of_tokens f) Cause.not_built h k = absurd (no_fault taken.side text k.tree k.read f h)
+one_cause taken text (Cause.of_grammar f) (Cause.of_tokens g) h k = absurd (tokens_or_fault text h.tokens g h.cut k)
+one_cause taken text (Cause.of_grammar f) (Cause.of_grammar g) h k = ap Cause.of_grammar (one_fault taken.side text k.tokens f g (subst (λ (ts : List Token). IsFault taken.side text ts f) (tokens_unique text h.tokens k.tokens h.cut k.cut) h.fails) k.fails)
+one_cause taken text (Cause.of_grammar f) Cause.not_built h k = absurd (no_parse_fault taken.side text k.tree k.read f h)
+one_cause taken text Cause.not_built (Cause.of_tokens g) h k = absurd (no_fault taken.side text h.tree h.read g k)
+one_cause taken text Cause.not_built (Cause.of_grammar g) h k = absurd (no_parse_fault taken.side text h.tree h.read g k)
+one_cause taken text Cause.not_built Cause.not_built h k = refl
 
 -- ---- refusals
 
 -- the cause of a refusal
-record Caused (text : List ℕ) (at : At) (why : List ℕ) : Type 0 where
+record Caused (taken : Intake) (text : List ℕ) (at : At) (why : List ℕ) : Type 0 where
   cause : Cause
-  has : HasCause text cause
+  has : HasCause taken text cause
   place : at ≡ place_of cause
   words : why ≡ words_of cause
 
-caused : (text : List ℕ) (at : At) (why : List ℕ) → IsRefused text at why → Caused text at why
-caused text at why (IsRefused.bad_token q f) = record { cause = Cause.of_tokens (lex_fault.BadToken q); has = f; place = refl; words = refl }
-caused text at why (IsRefused.large_number q f) = record { cause = Cause.of_tokens (lex_fault.NumberTooLarge q); has = f; place = refl; words = refl }
-caused text at why (IsRefused.too_deep q f) = record { cause = Cause.of_grammar (parse_fault.TooDeep q); has = f; place = refl; words = refl }
-caused text at why (IsRefused.outside word q f) = record { cause = Cause.of_grammar (parse_fault.OutsideProfile word q); has = f; place = refl; words = refl }
-caused text at why (IsRefused.bad_syntax q f) = record { cause = Cause.of_grammar (parse_fault.BadSyntax q); has = f; place = refl; words = refl }
-caused text at why (IsRefused.not_built f) = record { cause = Cause.not_built; has = f; place = refl; words = refl }
+caused : (taken : Intake) (text : List ℕ) (at : At) (why : List ℕ) → IsRefused taken text at why → Caused taken text at why
+caused taken text at why (IsRefused.bad_token q f) = record { cause = Cause.of_tokens (lex_fault.BadToken q); has = f; place = refl; words = refl }
+caused taken text at why (IsRefused.large_number q f) = record { cause = Cause.of_tokens (lex_fault.NumberTooLarge q); has = f; place = refl; words = refl }
+caused taken text at why (IsRefused.too_deep q f) = record { cause = Cause.of_grammar (parse_fault.TooDeep q); has = f; place = refl; words = refl }
+caused taken text at why (IsRefused.outside word q f) = record { cause = Cause.of_grammar (parse_fault.OutsideProfile word q); has = f; place = refl; words = refl }
+caused taken text at why (IsRefused.bad_syntax q f) = record { cause = Cause.of_grammar (parse_fault.BadSyntax q); has = f; place = refl; words = refl }
+caused taken text at why (IsRefused.not_built f) = record { cause = Cause.not_built; has = f; place = refl; words = refl }
 
 -- a refusal has one place and one reason
-one_refusal : (text : List ℕ) (at place : At) (why words : List ℕ) → IsRefused text at why → IsRefused text place words → (at ≡ place) × (why ≡ words)
-one_refusal text at place why words h k =
-    let a = caused text at why h in
-    let b = caused text place words k in
-    let same = one_cause text a.cause b.cause a.has b.has in
+one_refusal : (taken : Intake) (text : List ℕ) (at place : At) (why words : List ℕ) → IsRefused taken text at why → IsRefused taken text place words → (at ≡ place) × (why ≡ words)
+one_refusal taken text at place why words h k =
+    let a = caused taken text at why h in
+    let b = caused taken text place words k in
+    let same = one_cause taken text a.cause b.cause a.has b.has in
     (a.place ∙ ap place_of same ∙ sym b.place, a.words ∙ ap words_of same ∙ sym b.words)
 
 -- and so one status and one output
-pub one_refusing : (input : List ℕ) (a b : Status) (out text : List ℕ) → Refusing input a out → Refusing input b text → (a ≡ b) × (out ≡ text)
-one_refusing input a b out text (Refusing.refused at why h) (Refusing.refused place words k) =
-    let same = one_refusal input at place why words h k in
+pub one_refusing : (taken : Intake) (input : List ℕ) (a b : Status) (out text : List ℕ) → Refusing taken input a out → Refusing taken input b text → (a ≡ b) × (out ≡ text)
+one_refusing taken input a b out text (Refusing.refused at why h) (Refusing.refused place words k) =
+    let same = one_refusal taken input at place why words h k in
     (refl, ap (λ q. refusal_line q why) same.0 ∙ ap (refusal_line place) same.1)

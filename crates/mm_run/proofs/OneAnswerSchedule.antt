@@ -11,9 +11,13 @@ use Rattle.mm_sched.specs.Runs.{run}
 use Rattle.mm_sched.specs.ScheduleText.{IsSchedule, entries_in}
 use Rattle.mm_sched.proofs.ReadingOn.{not_both, one_bad_line, one_schedule}
 use Rattle.mm_run.specs.declared.status.Status.{Status}
-use Rattle.mm_run.specs.Lines.{bad_line, stuck_line, verdict_line}
-use Rattle.mm_run.specs.Replay.{IsStuckBehind, Replays}
+use Rattle.mm_run.specs.Lines.{bad_line, stuck_line}
+use Rattle.mm_run.specs.Outcome.{IsStuckBehind, Outcome, RunAnswer}
 use Rattle.mm_run.proofs.Completing.{no_other_end}
+
+-- for each run there is one answer at most
+abbrev pub HasOneAnswer : RunAnswer → Type 0
+HasOneAnswer Ends = (es : List Entry) (last : State) (a b : Status) (out text : List ℕ) → Ends es last a out → Ends es last b text → (a ≡ b) × (out ≡ text)
 
 module _ (r : Rules) (p : Listing) where
   -- no run goes on with an entry that is not enabled
@@ -54,16 +58,18 @@ module _ (r : Rules) (p : Listing) where
     not_stuck : (ls ms : List Line) (last : State) (k : ℕ) → IsSchedule schedule ls → IsSchedule schedule ms → run r p (initial p) (entries_in ls) ≡ Some last → IsStuckBehind r p (initial p) (entries_in ms) k → ⊥
     not_stuck ls ms last k h i e s = no_other_end r p (initial p) last (entries_in ls) k e (of_lines (λ es. IsStuckBehind r p (initial p) es k) ls ms h i s)
 
-    -- the lines are one list or one is bad, and they come to an end or stop at one entry
-    pub one_outcome : (a b : Status) (out text : List ℕ) → Replays r p schedule a out → Replays r p schedule b text → (a ≡ b) × (out ≡ text)
-    one_outcome a b out text (Replays.ends ls m h e) (Replays.ends ms n k f) =
-        (refl, ap (λ (s : State). verdict_line s.verdict) (one_last (initial p) m n (entries_in ls) e (of_lines (λ es. run r p (initial p) es ≡ Some n) ls ms h k f)))
-    one_outcome a b out text (Replays.stuck ls m h e) (Replays.stuck ms n k f) =
+    -- the lines are one list or one is bad, and they come to an end, where one answer is given, or stop at one entry
+    pub one_outcome : (Ends : RunAnswer) → HasOneAnswer Ends → (a b : Status) (out text : List ℕ) → Outcome r p Ends schedule a out → Outcome r p Ends schedule b text → (a ≡ b) × (out ≡ text)
+    one_outcome Ends one a b out text (Outcome.ends ls m h e u) (Outcome.ends ms n k f v) =
+        let lines : entries_in ms ≡ entries_in ls = ap entries_in (one_schedule schedule ms ls k h) in
+        let last : n ≡ m = one_last (initial p) n m (entries_in ls) (of_lines (λ es. run r p (initial p) es ≡ Some n) ls ms h k f) e in
+        one (entries_in ls) m a b out text u (subst (λ (s : State). Ends (entries_in ls) s b text) last (subst (λ (es : List Entry). Ends es n b text) lines v))
+    one_outcome Ends one a b out text (Outcome.stuck ls m h e) (Outcome.stuck ms n k f) =
         (refl, ap (λ j. stuck_line (j + 1)) (one_stuck (initial p) (entries_in ls) m n e (of_lines (λ es. IsStuckBehind r p (initial p) es n) ls ms h k f)))
-    one_outcome a b out text (Replays.bad m h) (Replays.bad n k) = (refl, ap bad_line (one_bad_line schedule m n h k))
-    one_outcome a b out text (Replays.ends ls m h e) (Replays.stuck ms n k f) = absurd (not_stuck ls ms m n h k e f)
-    one_outcome a b out text (Replays.ends ls m h e) (Replays.bad n k) = absurd (not_both schedule ls n h k)
-    one_outcome a b out text (Replays.stuck ls m h e) (Replays.ends ms n k f) = absurd (not_stuck ms ls n m k h f e)
-    one_outcome a b out text (Replays.stuck ls m h e) (Replays.bad n k) = absurd (not_both schedule ls n h k)
-    one_outcome a b out text (Replays.bad m h) (Replays.ends ms n k f) = absurd (not_both schedule ms m k h)
-    one_outcome a b out text (Replays.bad m h) (Replays.stuck ms n k f) = absurd (not_both schedule ms m k h)
+    one_outcome Ends one a b out text (Outcome.bad m h) (Outcome.bad n k) = (refl, ap bad_line (one_bad_line schedule m n h k))
+    one_outcome Ends one a b out text (Outcome.ends ls m h e u) (Outcome.stuck ms n k f) = absurd (not_stuck ls ms m n h k e f)
+    one_outcome Ends one a b out text (Outcome.ends ls m h e u) (Outcome.bad n k) = absurd (not_both schedule ls n h k)
+    one_outcome Ends one a b out text (Outcome.stuck ls m h e) (Outcome.ends ms n k f v) = absurd (not_stuck ms ls n m k h f e)
+    one_outcome Ends one a b out text (Outcome.stuck ls m h e) (Outcome.bad n k) = absurd (not_both schedule ls n h k)
+    one_outcome Ends one a b out text (Outcome.bad m h) (Outcome.ends ms n k f v) = absurd (not_both schedule ms m k h)
+    one_outcome Ends one a b out text (Outcome.bad m h) (Outcome.stuck ms n k f) = absurd (not_both schedule ms m k h)

@@ -14,10 +14,9 @@ use Rattle.mm_flat.proofs.Programs.{one_listing}
 use Rattle.mm_parse_expr.specs.declared.fault.ParseFault.{ParseFault}
 use Rattle.mm_parse_expr.specs.Terminals.{terminal_of}
 use Rattle.mm_parse.specs.Faults.{IsFault, Parses}
-use Rattle.mm_parse.specs.Meaning.{IsTreeOf}
-use Rattle.mm_parse.specs.ProgramGrammar.{IsProgram}
-use Rattle.mm_parse.specs.SmallProgram.{IsSmallProgram}
-use Rattle.mm_parse.proofs.ProgramComplete.{one_program as one_grammar_tree}
+use Rattle.mm_grammar.specs.Meaning.{IsTreeOf}
+use Rattle.mm_grammar.specs.ProgramGrammar.{IsProgram}
+use Rattle.mm_grammar.proofs.ProgramComplete.{one_program as one_grammar_tree}
 use Rattle.mm_lexer.specs.declared.token.LexFault.TheVariants as lex_fault
 use Rattle.mm_parse_expr.specs.declared.fault.ParseFault.TheVariants as parse_fault
 use Rattle.mm_run.specs.declared.program.ProgramFault.{ProgramFault}
@@ -25,7 +24,7 @@ use Rattle.mm_run.specs.declared.program.ProgramFault.TheVariants as program_fau
 use Rattle.mm_run.specs.Refusal.{Says, Refuses}
 use Rattle.mm_run.specs.declared.status.Status.{Status}
 use Rattle.mm_run.specs.Answer.{Refusing}
-use Rattle.mm_run.specs.Program.{HasFault, IsProgramText, IsRefused}
+use Rattle.mm_run.specs.Program.{HasFault, Intake, IsProgramText, IsRefused, small_source}
 
 -- the tree of the tokens is that of the text
 pub tree_of : (side : Side) (text : List ℕ) (tokens read : List Token) (tree : Tree) → read ≡ tokens → AreTokens text tokens → Parses side text read tree → IsTreeOf side text tree
@@ -36,42 +35,42 @@ one_tree side text a b h k =
     let same : h.tokens ≡ k.tokens = tokens_unique text h.tokens k.tokens h.cut k.cut in
     one_grammar_tree (map (terminal_of text) h.tokens) a b h.parsed (subst (λ (ts : List Token). IsProgram (map (terminal_of text) ts) b) (sym same) k.parsed)
 
-pub one_program : (text : List ℕ) (p q : Listing) → IsProgramText text p → IsProgramText text q → p ≡ q
-one_program text p q h k =
-    let same : h.tree ≡ k.tree = one_tree Source text h.tree k.tree h.read k.read in
-    one_listing Source h.tree p q h.small.flat (subst (λ (t : Tree). IsFlat Source t q) (sym same) k.small.flat)
+pub one_program : (taken : Intake) (text : List ℕ) (p q : Listing) → IsProgramText taken text p → IsProgramText taken text q → p ≡ q
+one_program taken text p q h k =
+    let same : h.tree ≡ k.tree = one_tree taken.side text h.tree k.tree h.read k.read in
+    one_listing taken.side h.tree p q h.flat (subst (λ (t : Tree). IsFlat taken.side t q) (sym same) k.flat)
 
 -- a text that has a tree has no fault of its tokens and none of the grammar
-module _ (text : List ℕ) (tree : Tree) (h : IsTreeOf Source text tree) where
+module _ (side : Side) (text : List ℕ) (tree : Tree) (h : IsTreeOf side text tree) where
   pub no_fault : (fault : LexFault) → IsFirstFault text fault → ⊥
   no_fault fault f = tokens_or_fault text h.tokens fault h.cut f
 
   never : {at : At} {o : Option At} → o ≡ None → o ≡ Some at → ⊥
   never e f = cc
 
-  parsed : (fault : ParseFault) → IsFault Source text h.tokens fault → ⊥
+  parsed : (fault : ParseFault) → IsFault side text h.tokens fault → ⊥
   parsed fault (IsFault.too_deep at e) = never h.shallow e
   parsed fault (IsFault.no_program rest e f) = f.none tree h.parsed
 
-  pub no_parse_fault : (fault : ParseFault) → HasFault text fault → ⊥
-  no_parse_fault fault f = parsed fault (subst (λ (ts : List Token). IsFault Source text ts fault) (tokens_unique text f.tokens h.tokens f.cut h.cut) f.fails)
+  pub no_parse_fault : (fault : ParseFault) → HasFault side text fault → ⊥
+  no_parse_fault fault f = parsed fault (subst (λ (ts : List Token). IsFault side text ts fault) (tokens_unique text f.tokens h.tokens f.cut h.cut) f.fails)
 
-module _ (text : List ℕ) (p : Listing) (h : IsProgramText text p) where
-  pub accepted : (at : At) (why : List ℕ) → IsRefused text at why → ⊥
-  accepted at why (IsRefused.bad_token q f) = no_fault text h.tree h.read _ f
-  accepted at why (IsRefused.large_number q f) = no_fault text h.tree h.read _ f
-  accepted at why (IsRefused.too_deep q f) = no_parse_fault text h.tree h.read _ f
-  accepted at why (IsRefused.outside word q f) = no_parse_fault text h.tree h.read _ f
-  accepted at why (IsRefused.bad_syntax q f) = no_parse_fault text h.tree h.read _ f
-  accepted at why (IsRefused.not_built f) = f.none p (subst (λ (t : Tree). IsSmallProgram t p) (one_tree Source text h.tree f.tree h.read f.read) h.small)
+module _ (taken : Intake) (text : List ℕ) (p : Listing) (h : IsProgramText taken text p) where
+  pub accepted : (at : At) (why : List ℕ) → IsRefused taken text at why → ⊥
+  accepted at why (IsRefused.bad_token q f) = no_fault taken.side text h.tree h.read _ f
+  accepted at why (IsRefused.large_number q f) = no_fault taken.side text h.tree h.read _ f
+  accepted at why (IsRefused.too_deep q f) = no_parse_fault taken.side text h.tree h.read _ f
+  accepted at why (IsRefused.outside word q f) = no_parse_fault taken.side text h.tree h.read _ f
+  accepted at why (IsRefused.bad_syntax q f) = no_parse_fault taken.side text h.tree h.read _ f
+  accepted at why (IsRefused.not_built f) = f.not_built (subst taken.IsBuilt (one_tree taken.side text h.tree f.tree h.read f.read) h.built)
 
-  pub not_refused : (status : Status) (out : List ℕ) → Refusing text status out → ⊥
+  pub not_refused : (status : Status) (out : List ℕ) → Refusing taken text status out → ⊥
   not_refused status out (Refusing.refused at why r) = accepted at why r
 
 -- ---- what a fault says
 
 -- a fault that says why the text is refused refuses it
-pub refuses : (text : List ℕ) (at : At) (why : List ℕ) (fault : ProgramFault) → IsRefused text at why → Says fault at why → Refuses text fault
+pub refuses : (text : List ℕ) (at : At) (why : List ℕ) (fault : ProgramFault) → IsRefused small_source text at why → Says fault at why → Refuses text fault
 refuses text at why (program_fault.Refused r) h s = rw (s.0, s.1) h
 refuses text at why program_fault.NoMemory h s = tt
 
@@ -80,5 +79,5 @@ pub lexed : (text : List ℕ) (fault f : LexFault) → fault ≡ f → (f ≡ le
 lexed text fault f e n h = subst (λ (x : LexFault). IsFirstFault text x) e (h (λ m. n (sym e ∙ m)))
 
 -- and of the grammar
-pub known : (text : List ℕ) (tokens : List Token) (fault f : ParseFault) → AreTokens text tokens → fault ≡ f → (f ≡ parse_fault.NoMemory → ⊥) → (fault ≢ parse_fault.NoMemory → IsFault Source text tokens fault) → HasFault text f
+pub known : (text : List ℕ) (tokens : List Token) (fault f : ParseFault) → AreTokens text tokens → fault ≡ f → (f ≡ parse_fault.NoMemory → ⊥) → (fault ≢ parse_fault.NoMemory → IsFault Source text tokens fault) → HasFault Source text f
 known text tokens fault f t e n h = record { tokens = tokens; cut = t; fails = subst (λ (x : ParseFault). IsFault Source text tokens x) e (h (λ m. n (sym e ∙ m))) }

@@ -13,7 +13,8 @@ use Rattle.mm_sched.proofs.Joins.{run-append}
 use Rattle.mm_run.specs.declared.status.Status.{Status}
 use Rattle.mm_run.specs.declared.status.Status.TheVariants.{Done, BadSchedule, Stuck}
 use Rattle.mm_run.specs.Lines.{bad_line, stuck_line, verdict_line}
-use Rattle.mm_run.specs.Replay.{IsStuckBehind, Replays}
+use Rattle.mm_run.specs.Outcome.{IsStuckBehind, Outcome, TellsVerdict}
+use Rattle.mm_run.specs.Answer.{Replays}
 
 -- k of the entries have led from one state to another, and the rest is to come
 pub record HasTaken (r : Rules) (p : Listing) (from : State) (es : List Entry) (to : State) (k : ℕ) (rest : List Entry) : Type 0 where
@@ -91,10 +92,10 @@ module _ (r q : Rules) (p o : Listing) (same_rules : q ≡ r) (same_program : o 
 
 module _ (r : Rules) (p : Listing) (from : State) (same : from ≡ initial p) (lines : List Line) (status : Status) (out : List ℕ) (text : List ℕ) (h : IsSchedule text lines) where
   pub replay_ends : (last : State) (verdict : Option ℕ) → run r p from (entries_in lines) ≡ Some last → verdict ≡ last.verdict → status ≡ Done → out ≡ verdict_line verdict → Replays r p text status out
-  replay_ends last verdict e v s o = rw (s, o, v) (Replays.ends lines last h (subst (λ s. run r p s (entries_in lines) ≡ Some last) same e))
+  replay_ends last verdict e v s o = rw (s, o, v) (Outcome.ends lines last h (subst (λ s. run r p s (entries_in lines) ≡ Some last) same e) TellsVerdict.verdict)
 
   pub replay_sticks : (k : ℕ) → IsStuckBehind r p from (entries_in lines) k → status ≡ Stuck → out ≡ stuck_line (k + 1) → Replays r p text status out
-  replay_sticks k e s o = rw (s, o) (Replays.stuck lines k h (subst (λ s. IsStuckBehind r p s (entries_in lines) k) same e))
+  replay_sticks k e s o = rw (s, o) (Outcome.stuck lines k h (subst (λ s. IsStuckBehind r p s (entries_in lines) k) same e))
 
 pub is_bad : (r : Rules) (p : Listing) (text : List ℕ) (status : Status) (out : List ℕ) (k : ℕ) → IsBadLine text k → status ≡ BadSchedule → out ≡ bad_line k → Replays r p text status out
-is_bad r p text status out k h s o = rw (s, o) (Replays.bad k h)
+is_bad r p text status out k h s o = rw (s, o) (Outcome.bad k h)

@@ -12,10 +12,10 @@ use Rattle.mm_goto.specs.declared.program.Instr.TheVariants.{Jump, End}
 use Rattle.mm_goto.specs.Terms.{constant, the_local}
 use Rattle.mm_goto.specs.Value.{value_of, value_step, is_zero, truth}
 use Rattle.mm_goto.proofs.Folding.{fold_constant, fold_local, fold_combined}
-use Rattle.mm_parse.specs.declared.small_program.tree.Statement.{Statement}
-use Rattle.mm_parse.specs.declared.small_program.tree.Statement.TheVariants as statement
-use Rattle.mm_parse.specs.declared.small_program.tree.Small.{Small}
-use Rattle.mm_parse.specs.Flat.{reads, asserts, equals, statement_code as source_code, body_code, main_of, cell, listing_of}
+use Rattle.mm_small.specs.declared.tree.Statement.{Statement}
+use Rattle.mm_small.specs.declared.tree.Statement.TheVariants as statement
+use Rattle.mm_small.specs.declared.tree.Small.{Small}
+use Rattle.mm_small.specs.Flat.{reads, asserts, equals, statement_code as source_code, body_code, main_of, cell, listing_of}
 use Rattle.mm_print.proofs.Mains.{statements_size}
 use Rattle.mm_print.specs.Woven.{fresh, size, place_of, end_of, statement as statement_code, statements, declaration, woven_main, woven}
 use Rattle.mm_sched.specs.declared.entry.Rules.TheVariants.{Sc}

@@ -1,71 +1,128 @@
 -- What the tool answers for the words of a command and an input.
 use Rattle.std.specs.Prelude.{◌≡◌, ◌↔◌, ℕ, List, codes, Option}
-use Rattle.std.specs.Str.{IsUtf8}
+use Rattle.std.specs.Str.{IsUtf8, chars}
 use Rattle.std.specs.Io.KnownBytes.{Appends}
 use Rattle.mm_goto.specs.declared.ident.At.{At}
+use Rattle.mm_goto.specs.declared.model.Model.{Model}
+use Rattle.mm_goto.specs.Bounds.{Bounding}
 use Rattle.mm_goto.specs.Listing.{Listing}
 use Rattle.mm_goto.specs.Place.{place_after}
-use Rattle.mm_goto.specs.declared.model.Model.TheVariants.{Tso}
 use Rattle.mm_sched.specs.declared.entry.Rules.{Rules}
 use Rattle.mm_sched.specs.declared.entry.Rules.TheVariants.{Sc, Buffered}
 use Rattle.mm_sched.specs.Runs.{Reaches}
 use Rattle.mm_tree.specs.declared.side.Side.TheVariants.{Output}
-use Rattle.mm_parse.specs.Meaning.{IsProgramOf}
+use Rattle.mm_print.specs.Meaning.{IsProgramOf}
 use Rattle.mm_print.specs.SmallText.{small_text}
 use Rattle.mm_run.specs.declared.command.Settings.{Settings}
 use Rattle.mm_run.specs.declared.command.Settings.TheVariants.{Instrument, ReplaySc, Replay}
 use Rattle.mm_run.specs.declared.status.Status.{Status}
-use Rattle.mm_run.specs.declared.status.Status.TheVariants.{Done, Words, ReadFault, TooLong, Refused, WriteFault, NoMemory}
+use Rattle.mm_run.specs.declared.status.Status.TheVariants.{Done, Words, ReadFault, TooLong, Refused, BadSchedule, Stuck, NotFailing, WriteFault, NoMemory}
 use Rattle.mm_run.specs.Input.{IsWhole, IsTooLong}
 use Rattle.mm_run.specs.Lines.{refusal_line}
 use Rattle.mm_run.specs.Output.{AppendsPart}
 use Rattle.mm_run.specs.Parts.{IsNotUtf8, IsSplit, LacksPart}
-use Rattle.mm_run.specs.Program.{IsProgramText, IsRefused}
-use Rattle.mm_run.specs.Replay.{Replays}
+use Rattle.mm_run.specs.Program.{Intake, IsProgramText, IsRefused, small_source}
+use Rattle.mm_run.specs.Outcome.{Outcome, TellsVerdict}
 
--- under sequential consistency q fails just the assertions that p fails with store buffers of this bound under TSO
-abbrev pub FailsAsBuffered : Listing → Listing → ℕ → Type 0
-FailsAsBuffered q p bound = (n : ℕ) → Reaches Sc q n ↔ Reaches (Buffered Tso bound) p n
+-- ---- the woven program
 
--- The output is the text of the woven program of the input's program. It is a program of the same grammar, and any goto
--- program that it has fails under sequential consistency as the input's program does with store buffers of this bound.
-pub record IsWoven (input : List ℕ) (bound : ℕ) (out : List ℕ) : Type 0 where
-  pub program : Listing
-  pub accepted : IsProgramText input program
-  pub text : out ≡ small_text program bound
-  pub printed : (q : Listing) × IsProgramOf Output out q
-  pub alike : (q : Listing) → IsProgramOf Output out q → FailsAsBuffered q program bound
+-- q is what the text means that is printed for p, the model and the bound
+abbrev pub IsOut : Listing → Model → Bounding → Listing → Type 0
+IsOut p m bound q = IsProgramOf Output (small_text p m bound) q
+
+-- under sequential consistency q fails just the assertions that p fails with store buffers of this bound under the model
+abbrev pub FailsAsBuffered : Listing → Listing → Model → Bounding → Type 0
+FailsAsBuffered q p m bound = (n : ℕ) → Reaches Sc q n ↔ Reaches (Buffered m bound) p n
+
+-- The output is the text of the woven program of p. It is a program of the same grammar, and any goto program that it has
+-- fails under sequential consistency as p does with store buffers of this bound under the model.
+pub record IsWoven (p : Listing) (m : Model) (bound : Bounding) (out : List ℕ) : Type 0 where
+  pub text : out ≡ small_text p m bound
+  pub printed : (q : Listing) × IsOut p m bound q
+  pub alike : (q : Listing) → IsOut p m bound q → FailsAsBuffered q p m bound
+
+-- the status and the output of `instrument` for a goto program
+pub data PrintsWoven (m : Model) (bound : Bounding) (p : Listing) : Status → List ℕ → Type 0 where
+  done : {out : List ℕ}
+      → IsWoven p m bound out
+      → PrintsWoven m bound p Done out
+
+-- ---- parts of an input
 
 -- the text is refused, and the output says where and why
-pub data Refusing (text : List ℕ) : Status → List ℕ → Type 0 where
-  refused : (at : At) (why : List ℕ) → IsRefused text at why → Refusing text Refused (refusal_line at why)
+pub data Refusing (taken : Intake) (text : List ℕ) : Status → List ℕ → Type 0 where
+  refused : (at : At) (why : List ℕ)
+      → IsRefused taken text at why
+      → Refusing taken text Refused (refusal_line at why)
 
--- the status and the output of `instrument`
-pub data Instruments (bound : ℕ) (input : List ℕ) : Status → List ℕ → Type 0 where
-  done : {out : List ℕ} → IsWoven input bound out → Instruments bound input Done out
-  refused : {status : Status} {out : List ℕ} → Refusing input status out → Instruments bound input status out
+-- What a command answers for the goto program of its input, or for one and the text of a schedule.
+abbrev pub ProgramAnswer : Type 1
+ProgramAnswer = Listing → Status → List ℕ → Type 0
 
--- the status and the output of `replay` on the machine of these rules
-pub data ReplaysParts (r : Rules) (input : List ℕ) : Status → List ℕ → Type 0 where
-  one_part : LacksPart input → ReplaysParts r input Refused (refusal_line (place_after input) (codes "missing part"))
-  refused : {status : Status} {out : List ℕ} (program schedule : List ℕ) → IsSplit input program schedule → Refusing program status out → ReplaysParts r input status out
-  both : {status : Status} {out : List ℕ} (program schedule : List ℕ) (p : Listing) → IsSplit input program schedule → IsProgramText program p → Replays r p schedule status out → ReplaysParts r input status out
+abbrev pub ScheduleAnswer : Type 1
+ScheduleAnswer = Listing → List ℕ → Status → List ℕ → Type 0
+
+-- the status and the output of a command that takes a program
+pub data AnswersProgram (taken : Intake) (Gives : ProgramAnswer) (input : List ℕ) : Status → List ℕ → Type 0 where
+  refused : {status : Status} {out : List ℕ}
+      → Refusing taken input status out
+      → AnswersProgram taken Gives input status out
+  program : {status : Status} {out : List ℕ} (p : Listing)
+      → IsProgramText taken input p
+      → Gives p status out
+      → AnswersProgram taken Gives input status out
+
+-- the status and the output of a command that takes a program and a schedule
+pub data AnswersParts (taken : Intake) (Gives : ScheduleAnswer) (input : List ℕ) : Status → List ℕ → Type 0 where
+  one_part : LacksPart input
+      → AnswersParts taken Gives input Refused (refusal_line (place_after (chars input)) (codes "missing part"))
+  refused : {status : Status} {out : List ℕ} (program schedule : List ℕ)
+      → IsSplit input program schedule
+      → Refusing taken program status out
+      → AnswersParts taken Gives input status out
+  both : {status : Status} {out : List ℕ} (program schedule : List ℕ) (p : Listing)
+      → IsSplit input program schedule
+      → IsProgramText taken program p
+      → Gives p schedule status out
+      → AnswersParts taken Gives input status out
+
+-- ---- the whole input
+
+-- `replay` runs the schedule on the program of the input
+abbrev pub Replays : Rules → ScheduleAnswer
+Replays r p = Outcome r p TellsVerdict
 
 -- the status and the output for an input that is a text
 abbrev pub AnswersText : Settings → List ℕ → Status → List ℕ → Type 0
-AnswersText (Instrument m bound) input status out = Instruments bound input status out
-AnswersText ReplaySc input status out = ReplaysParts Sc input status out
-AnswersText (Replay m bound) input status out = ReplaysParts (Buffered m bound) input status out
+AnswersText (Instrument m bound) = AnswersProgram small_source (PrintsWoven m bound)
+AnswersText ReplaySc = AnswersParts small_source (Replays Sc)
+AnswersText (Replay m bound) = AnswersParts small_source (Replays (Buffered m bound))
 
 -- the status and the output for an input of at most the greatest length
 pub data AnswersWhole (s : Settings) (input : List ℕ) : Status → List ℕ → Type 0 where
-  no_text : (at : At) → IsNotUtf8 input at → AnswersWhole s input Refused (refusal_line at (codes "not UTF-8"))
-  text : {status : Status} {out : List ℕ} → IsUtf8 input → AnswersText s input status out → AnswersWhole s input status out
+  no_text : (at : At)
+      → IsNotUtf8 input at
+      → AnswersWhole s input Refused (refusal_line at (codes "not UTF-8"))
+  text : {status : Status} {out : List ℕ}
+      → IsUtf8 input
+      → AnswersText s input status out
+      → AnswersWhole s input status out
 
--- what is read, and the status and the output for it
-pub data Responds (s : Settings) (old new : Option (List ℕ)) : Status → List ℕ → Type 0 where
-  whole : {status : Status} {out : List ℕ} (bytes : List ℕ) → IsWhole old new bytes → AnswersWhole s bytes status out → Responds s old new status out
-  too_long : IsTooLong old new → Responds s old new TooLong (codes "too long\n")
+-- the status and the output of a command that reads its input, by what is left of it
+pub data AnswersInput (s : Settings) (old new : Option (List ℕ)) : Status → List ℕ → Type 0 where
+  whole : {status : Status} {out : List ℕ} (bytes : List ℕ)
+      → IsWhole old new bytes
+      → AnswersWhole s bytes status out
+      → AnswersInput s old new status out
+  too_long : IsTooLong old new → AnswersInput s old new TooLong (codes "too long\n")
+
+-- what a command reads, and the status and the output for it; each of these commands reads its input
+abbrev pub Responds : Settings → Option (List ℕ) → Option (List ℕ) → Status → List ℕ → Type 0
+Responds (Instrument m bound) = AnswersInput (Instrument m bound)
+Responds ReplaySc = AnswersInput ReplaySc
+Responds (Replay m bound) = AnswersInput (Replay m bound)
+
+-- ---- the output
 
 -- the output was written whole
 pub record Writes (s : Settings) (old new taken now : Option (List ℕ)) (status : Status) : Type 0 where
@@ -82,30 +139,52 @@ pub record BreaksOff (s : Settings) (old new taken now : Option (List ℕ)) : Ty
 
 -- how a command ends, by what is left of the input and what is taken of the output
 abbrev pub Ends : Settings → Option (List ℕ) → Option (List ℕ) → Option (List ℕ) → Option (List ℕ) → Status → Type 0
+Ends s old new taken now Done = Writes s old new taken now Done
+Ends s old new taken now Words = ⊥
 Ends s old new taken now ReadFault = Unit {0}
-Ends s old new taken now NoMemory = Unit {0}
+Ends s old new taken now TooLong = Writes s old new taken now TooLong
+Ends s old new taken now Refused = Writes s old new taken now Refused
+Ends s old new taken now BadSchedule = Writes s old new taken now BadSchedule
+Ends s old new taken now Stuck = Writes s old new taken now Stuck
+Ends s old new taken now NotFailing = Writes s old new taken now NotFailing
 Ends s old new taken now WriteFault = BreaksOff s old new taken now
-Ends s old new taken now status = Writes s old new taken now status
+Ends s old new taken now NoMemory = Unit {0}
 
 -- nothing is written where the words are no command, a read failed or memory was wanting
 abbrev pub WritesNothing : Status → Type 0
+WritesNothing Done = ⊥
 WritesNothing Words = Unit {0}
 WritesNothing ReadFault = Unit {0}
+WritesNothing TooLong = ⊥
+WritesNothing Refused = ⊥
+WritesNothing BadSchedule = ⊥
+WritesNothing Stuck = ⊥
+WritesNothing NotFailing = ⊥
+WritesNothing WriteFault = ⊥
 WritesNothing NoMemory = Unit {0}
-WritesNothing _ = ⊥
 
 -- the status tells what came of an input that was read
 abbrev pub IsOfInput : Status → Type 0
+IsOfInput Done = Unit {0}
 IsOfInput Words = ⊥
 IsOfInput ReadFault = ⊥
+IsOfInput TooLong = Unit {0}
+IsOfInput Refused = Unit {0}
+IsOfInput BadSchedule = Unit {0}
+IsOfInput Stuck = Unit {0}
+IsOfInput NotFailing = Unit {0}
 IsOfInput WriteFault = ⊥
 IsOfInput NoMemory = ⊥
-IsOfInput _ = Unit {0}
 
 -- done, or kept from it by a fault or by want of memory
 abbrev pub IsDoneOrKept : Status → Type 0
 IsDoneOrKept Done = Unit {0}
+IsDoneOrKept Words = ⊥
 IsDoneOrKept ReadFault = Unit {0}
+IsDoneOrKept TooLong = ⊥
+IsDoneOrKept Refused = ⊥
+IsDoneOrKept BadSchedule = ⊥
+IsDoneOrKept Stuck = ⊥
+IsDoneOrKept NotFailing = ⊥
 IsDoneOrKept WriteFault = Unit {0}
 IsDoneOrKept NoMemory = Unit {0}
-IsDoneOrKept _ = ⊥

@@ -2,10 +2,11 @@ pub mod Accepted
 pub mod Answer
 pub mod Input
 pub mod Lines
+pub mod Outcome
 pub mod Output
 pub mod Parts
 pub mod Program
 pub mod Refusal
-pub mod Replay
+pub mod reading
 pub mod Settings
 pub mod Status

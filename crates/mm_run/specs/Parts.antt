@@ -1,6 +1,6 @@
 -- The parts of an input: a program, the line %%, and a schedule.
 use Rattle.std.specs.Prelude.{◌≡◌, ℕ, ◌≤◌, List, ◌∷◌, ◌++◌, length, drop, take, codes}
-use Rattle.std.specs.Str.{IsValidUpTo}
+use Rattle.std.specs.Str.{IsValidUpTo, chars}
 use Rattle.mm_goto.specs.declared.ident.At.{At}
 use Rattle.mm_goto.specs.Place.{place_after}
 
@@ -8,7 +8,7 @@ use Rattle.mm_goto.specs.Place.{place_after}
 pub record IsNotUtf8 (input : List ℕ) (at : At) : Type 0 where
   pub front : ℕ
   pub longest : IsValidUpTo input front
-  pub place : at ≡ place_after (take front input)
+  pub place : at ≡ place_after (chars (take front input))
 
 -- the line %% begins at byte i: a newline stands before it, as one would before the text
 pub record IsParting (text : List ℕ) (i : ℕ) : Type 0 where

@@ -3,7 +3,7 @@ use Rattle.std.specs.Prelude.{◌≡◌, ℕ, List, string_bytes}
 use Rattle.mm_goto.specs.declared.ident.At.{At}
 use Rattle.mm_run.specs.declared.program.ProgramFault.{ProgramFault}
 use Rattle.mm_run.specs.declared.program.ProgramFault.TheVariants.{Refused, NoMemory}
-use Rattle.mm_run.specs.Program.{IsRefused}
+use Rattle.mm_run.specs.Program.{IsRefused, small_source}
 
 -- the fault is a refusal at this place, for this reason; want of memory says nothing
 abbrev pub Says : ProgramFault → At → List ℕ → Type 0
@@ -12,5 +12,5 @@ Says NoMemory at why = Unit {0}
 
 -- the fault is a refusal of the text
 abbrev pub Refuses : List ℕ → ProgramFault → Type 0
-Refuses text (Refused r) = IsRefused text r.at (string_bytes r.why)
+Refuses text (Refused r) = IsRefused small_source text r.at (string_bytes r.why)
 Refuses text NoMemory = Unit {0}

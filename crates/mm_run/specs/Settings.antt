@@ -1,40 +1,25 @@
 -- The shapes of the command line.
-use Rattle.std.specs.Prelude.{ℕ, ◌-◌, ◌&&◌, if◌then◌else◌, nat_le, List, [], ◌∷◌, codes, Option, Some, None, option_and_then}
-use Rattle.std.specs.Str.{bytes_eq}
-use Rattle.mm_goto.specs.declared.model.Model.{Model}
-use Rattle.mm_goto.specs.declared.model.Model.TheVariants.{Tso, Pso}
+use Rattle.std.specs.Prelude.{◌≡◌, ℕ, List, [], ◌∷◌, codes}
+use Rattle.std.specs.Fmt.{decimal}
+use Rattle.mm_goto.specs.declared.model.Model.TheVariants.{Tso}
+use Rattle.mm_goto.specs.Bounds.{IsBound}
+use Rattle.mm_goto.specs.Models.{word_of}
 use Rattle.mm_run.specs.declared.command.Settings.{Settings}
 use Rattle.mm_run.specs.declared.command.Settings.TheVariants.{Instrument, ReplaySc, Replay}
 
--- tso or pso
-abbrev pub model_of : List ℕ → Option Model
-model_of word = if bytes_eq word (codes "tso") then Some Tso else if bytes_eq word (codes "pso") then Some Pso else None
+-- the words of a command
+abbrev pub words_of : Settings → List (List ℕ)
+words_of (Instrument m bound) = codes "instrument" ∷ codes "--mm" ∷ word_of m ∷ codes "--bound" ∷ decimal bound ∷ []
+words_of ReplaySc = codes "replay" ∷ codes "--mm" ∷ codes "sc" ∷ []
+words_of (Replay m bound) = codes "replay" ∷ codes "--mm" ∷ word_of m ∷ codes "--bound" ∷ decimal bound ∷ []
 
--- one digit, 1 to 8
-abbrev pub bound_of : List ℕ → Option ℕ
-bound_of (digit ∷ []) = if nat_le 49 digit && nat_le digit 56 then Some (digit - 48) else None
-bound_of _ = None
+-- which commands there are: the bound is 1 to 8, and `instrument` is there for TSO alone
+abbrev pub IsThere : Settings → Type 0
+IsThere (Instrument m bound) = (m ≡ Tso) × IsBound bound
+IsThere ReplaySc = Unit {0}
+IsThere (Replay m bound) = IsBound bound
 
--- instrument is there for TSO alone
-abbrev pub woven_for : Model → ℕ → Option Settings
-woven_for Tso k = Some (Instrument Tso k)
-woven_for Pso k = None
-
--- instrument or replay, with its model and its bound
-abbrev pub command_of : List ℕ → Model → ℕ → Option Settings
-command_of word m k = if bytes_eq word (codes "instrument") then woven_for m k else if bytes_eq word (codes "replay") then Some (Replay m k) else None
-
--- C --mm M --bound K, with a command C
-abbrev pub with_bound : (command mm model bound number : List ℕ) → Option Settings
-with_bound command mm model bound number =
-    if bytes_eq mm (codes "--mm") && bytes_eq bound (codes "--bound") then option_and_then (λ m. option_and_then (λ k. command_of command m k) (bound_of number)) (model_of model) else None
-
--- replay --mm sc
-abbrev pub without_bound : (command mm model : List ℕ) → Option Settings
-without_bound command mm model = if (bytes_eq command (codes "replay") && bytes_eq mm (codes "--mm")) && bytes_eq model (codes "sc") then Some ReplaySc else None
-
--- what the words ask for, where they have one of the two shapes
-abbrev pub settings_of : List (List ℕ) → Option Settings
-settings_of (command ∷ mm ∷ model ∷ bound ∷ number ∷ []) = with_bound command mm model bound number
-settings_of (command ∷ mm ∷ model ∷ []) = without_bound command mm model
-settings_of _ = None
+-- the words ask for the command
+pub record AskFor (words : List (List ℕ)) (s : Settings) : Type 0 where
+  pub there : IsThere s
+  pub shape : words ≡ words_of s

@@ -4,12 +4,14 @@
 mod answer;
 mod command;
 mod input;
+mod instrument;
 pub mod laws;
 mod machine;
 mod output;
 mod parts;
 mod program;
 mod replay;
+mod respond;
 mod status;
 pub mod tables;
 mod top;

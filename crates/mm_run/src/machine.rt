@@ -3,7 +3,7 @@ ghost use Rattle.mm_sched.specs.State.{State};
 ghost use Rattle.mm_sched.specs.Event.{next};
 ghost use Rattle.mm_sched.specs.Runs.{run};
 ghost use Rattle.mm_sched.specs.ScheduleText.{entries_in};
-ghost use Rattle.mm_run.specs.Replay.{IsStuckBehind};
+ghost use Rattle.mm_run.specs.Outcome.{IsStuckBehind};
 
 use mm_buf::Buf;
 use mm_sc::Sc;

@@ -1,20 +1,22 @@
-ghost use Rattle.std.specs.Prelude.{◌≡◌, ◌<◌, ◌≤◌, length, MatchOption, MatchResult, IsUtf8};
+ghost use Rattle.std.specs.Prelude.{◌≡◌, ◌≤◌, length, MatchOption, MatchResult, IsUtf8};
+ghost use Rattle.std.specs.Str.{chars};
 ghost use Rattle.mm_goto.specs.Place.{place_after};
 ghost use Rattle.mm_run.specs.Parts.{IsNotUtf8, IsSplit, LacksPart};
 
 use crate::input::MAX_INPUT;
 use mm_goto::At;
+use mm_lexer::end_of;
 
-/// The place behind the bytes, which are the front of a text.
-pub fn place_after(bytes: &[u8]) -> At
-    requires { length bytes.now ≤ MAX_INPUT }
-    ensures { result ≡ place_after bytes.now }
+// The place behind bytes that are a text.
+fn place_behind(front: &[u8]) -> At
+    requires text { IsUtf8 front.now }
+    requires length { length front.now ≤ MAX_INPUT }
+    ensures { result ≡ place_after (chars front.now) }
 {
-    let mut at = At::start();
-    for byte in bytes {
-        at = at.past(*byte);
+    match str::from_utf8(front) {
+        Ok(text) => end_of(text),
+        Err(_) => unreachable!(),
     }
-    at
 }
 
 /// The input as a text, or the place of its first byte that begins no character.
@@ -24,7 +26,7 @@ pub fn text_of(input: &[u8]) -> Result<&str, At>
 {
     match str::from_utf8(input) {
         Ok(text) => Ok(text),
-        Err(fault) => Err(place_after(&input[..fault.valid_up_to()])),
+        Err(fault) => Err(place_behind(&input[..fault.valid_up_to()])),
     }
 }
 

@@ -1,16 +1,18 @@
 ghost use Rattle.std.specs.Prelude.{◌≡◌, ◌≢◌, ◌≤◌, ◌++◌, ℕ, List, length, codes, string_bytes, IfOk, IfErr};
+ghost use Rattle.mm_goto.specs.Sourcelike.{IsSourcelike};
 ghost use Rattle.mm_goto.specs.Valid.{IsValid};
 ghost use Rattle.mm_lexer.specs.Tokens.{AreTokens, IsFirstFault};
 ghost use Rattle.mm_lexer.specs.declared.token.Token.{Token as TokenValue};
 ghost use Rattle.mm_tree.specs.declared.side.Side.TheVariants.{Source};
 ghost use Rattle.mm_parse.specs.Faults.{IsFault};
-ghost use Rattle.mm_run.specs.Program.{IsProgramText};
+ghost use Rattle.mm_run.specs.Program.{IsProgramText, small_source};
 ghost use Rattle.mm_run.specs.Refusal.{Says, Refuses};
 
 use crate::input::MAX_INPUT;
 use mm_goto::{At, NoMemory, Program};
 use mm_lexer::{LexFault, lex};
-use mm_parse::{ParseFault, SmallFault, parse, small};
+use mm_parse::{ParseFault, parse};
+use mm_small::{SmallFault, small};
 use mm_tree::Side;
 use std::alloc::Global;
 
@@ -71,8 +73,9 @@ fn unparsed(alloc: Global, fault: ParseFault) -> ProgramFault
 /// grammar, and what is built.
 pub fn program_of(alloc: Global, text: &str) -> Result<Program, ProgramFault>
     requires { length text.now ≤ MAX_INPUT }
-    ensures program { IfOk result (λ program. IsProgramText text.now program) }
+    ensures program { IfOk result (λ program. IsProgramText small_source text.now program) }
     ensures valid { IfOk result IsValid }
+    ensures sourcelike { IfOk result IsSourcelike }
     ensures refused { IfErr result (λ fault. Refuses text.now fault) }
 {
     let tokens = match lex(alloc, text) {

@@ -1,24 +1,27 @@
 ghost use Rattle.std.specs.Prelude.{◌≡◌, ◌+◌, ◌<◌, ◌≤◌, ◌^◌, ℕ, List, length, codes, IfOk, string_bytes};
+ghost use Rattle.std.specs.Str.{chars};
 ghost use Rattle.mm_goto.specs.Listing.{Listing};
 ghost use Rattle.mm_goto.specs.Place.{place_after};
-ghost use Rattle.mm_sched.specs.declared.entry.Rules.{Rules};
+ghost use Rattle.mm_sched.specs.declared.entry.Rules.{Rules as RulesOf};
 ghost use Rattle.mm_sched.specs.Sections.{HasNoSection};
 ghost use Rattle.mm_sched.specs.State.{initial};
 ghost use Rattle.mm_sched.specs.ScheduleText.{IsFault, IsSchedule, entries_in};
-ghost use Rattle.mm_run.specs.Answer.{ReplaysParts};
+ghost use Rattle.mm_run.specs.Answer.{AnswersParts, Replays};
 ghost use Rattle.mm_run.specs.Lines.{bad_line, refusal_line, stuck_line, verdict_line};
-ghost use Rattle.mm_run.specs.Replay.{Replays, rules_of};
+ghost use Rattle.mm_run.specs.Program.{small_source};
+ghost use Rattle.mm_run.specs.reading.Whole.{IsWholeMachine};
 
 use crate::answer::{Answer, answer_fault, refused};
 use crate::input::MAX_INPUT;
 use crate::machine::{Machine, take_lines};
-use crate::parts::{place_after, split};
+use crate::parts::split;
 use crate::program::program_of;
 use crate::status::Status;
 use mm_buf::Buf;
-use mm_goto::{Bound, Model, NoMemory, Program};
+use mm_goto::{NoMemory, Program};
+use mm_lexer::end_of;
 use mm_sc::Sc;
-use mm_sched::{Line, SchedFault, read_schedule};
+use mm_sched::{Line, Rules, SchedFault, read_schedule};
 use std::alloc::Global;
 
 // The answer of a schedule that is a run.
@@ -67,41 +70,34 @@ fn replay<M: Machine>(alloc: Global, machine: &mut M, lines: &[Line]) -> Result<
     }
 }
 
-/// How stores reach memory.
-#[derive(Clone, Copy, Debug, PartialEq, Eq)]
-pub enum Memory {
-    /// At once.
-    Direct,
-    /// By store buffers of the bound under the model.
-    Buffered(Model, Bound),
-}
-
-// What the lines of a schedule do where stores reach memory so.
+// What the lines of a schedule do on the machine of the rules.
 fn replay_on(
     alloc: Global,
-    memory: Memory,
+    rules: &Rules,
     program: &Program,
     lines: &[Line],
 ) -> Result<Answer, NoMemory>
+    requires whole { IsWholeMachine rules.now }
     requires sections { HasNoSection program.now }
     requires few { length (entries_in lines.now) + 1 < 2 ^ 32 }
-    ensures { IfOk result (λ answer. (text : List ℕ) → IsSchedule text lines.now → Replays (rules_of memory) program.now text answer.status (string_bytes answer.output)) }
+    ensures { IfOk result (λ answer. (text : List ℕ) → IsSchedule text lines.now → Replays rules.now program.now text answer.status (string_bytes answer.output)) }
 {
-    match memory {
-        Memory::Direct => {
+    match rules {
+        Rules::Sc => {
             let mut machine = Sc::new(alloc, program)?;
             replay(alloc, &mut machine, lines)
         }
-        Memory::Buffered(model, bound) => {
-            let mut machine = Buf::new(alloc, program, model, bound)?;
+        Rules::Buffered(model, bound) => {
+            let mut machine = Buf::new(alloc, program, *model, *bound)?;
             replay(alloc, &mut machine, lines)
         }
+        Rules::Partial(_, _, _) => unreachable!(),
     }
 }
 
 // The answer where no schedule was read.
 fn unread(alloc: Global, fault: SchedFault) -> Result<Answer, NoMemory>
-    ensures { IfOk result (λ answer. (r : Rules) (p : Listing) (text : List ℕ) → IsFault text fault → Replays r p text answer.status (string_bytes answer.output)) }
+    ensures { IfOk result (λ answer. (r : RulesOf) (p : Listing) (text : List ℕ) → IsFault text fault → Replays r p text answer.status (string_bytes answer.output)) }
 {
     match fault {
         SchedFault::BadLine(line) => bad_schedule(alloc, line),
@@ -112,15 +108,16 @@ fn unread(alloc: Global, fault: SchedFault) -> Result<Answer, NoMemory>
 // What the text of a schedule gives.
 fn replay_text(
     alloc: Global,
-    memory: Memory,
+    rules: &Rules,
     program: &Program,
     schedule: &str,
 ) -> Result<Answer, NoMemory>
-    requires { HasNoSection program.now }
-    ensures { IfOk result (λ answer. Replays (rules_of memory) program.now schedule.now answer.status (string_bytes answer.output)) }
+    requires whole { IsWholeMachine rules.now }
+    requires sections { HasNoSection program.now }
+    ensures { IfOk result (λ answer. Replays rules.now program.now schedule.now answer.status (string_bytes answer.output)) }
 {
     match read_schedule(alloc, schedule) {
-        Ok(schedule) => replay_on(alloc, memory, program, schedule.lines.items()),
+        Ok(schedule) => replay_on(alloc, rules, program, schedule.lines.items()),
         Err(fault) => unread(alloc, fault),
     }
 }
@@ -128,19 +125,20 @@ fn replay_text(
 // The answer to an input that lacks the line `%%`.
 fn missing_part(alloc: Global, input: &str) -> Result<Answer, NoMemory>
     requires { length input.now ≤ MAX_INPUT }
-    ensures { IfOk result (λ answer. (answer.status ≡ Status.Refused) × (string_bytes answer.output ≡ refusal_line (place_after input.now) (codes "missing part"))) }
+    ensures { IfOk result (λ answer. (answer.status ≡ Status.Refused) × (string_bytes answer.output ≡ refusal_line (place_after (chars input.now)) (codes "missing part"))) }
 {
-    refused(alloc, place_after(input.as_bytes()), "missing part")
+    refused(alloc, end_of(input), "missing part")
 }
 
-/// The answer to a program and a schedule where stores reach memory so.
-pub fn answer_replay(alloc: Global, memory: Memory, input: &str) -> Result<Answer, NoMemory>
-    requires { length input.now ≤ MAX_INPUT }
-    ensures { IfOk result (λ answer. ReplaysParts (rules_of memory) input.now answer.status (string_bytes answer.output)) }
+/// The answer of `replay` to a program and a schedule, on the machine of the rules.
+pub fn answer_replay(alloc: Global, rules: &Rules, input: &str) -> Result<Answer, NoMemory>
+    requires whole { IsWholeMachine rules.now }
+    requires length { length input.now ≤ MAX_INPUT }
+    ensures { IfOk result (λ answer. AnswersParts small_source (Replays rules.now) input.now answer.status (string_bytes answer.output)) }
 {
     match split(input) {
         Some((program, schedule)) => match program_of(alloc, program) {
-            Ok(program) => replay_text(alloc, memory, &program, schedule),
+            Ok(program) => replay_text(alloc, rules, &program, schedule),
             Err(fault) => answer_fault(alloc, fault),
         },
         None => missing_part(alloc, input),

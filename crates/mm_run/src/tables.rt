@@ -7,22 +7,19 @@ ghost use Rattle.mm_tree.specs.declared.side.Side.TheVariants.{Source, Output};
 ghost use Rattle.mm_parse_expr.specs.declared.symbol.Keyword.TheVariants as word;
 ghost use Rattle.mm_parse_expr.specs.declared.symbol.Symbol.TheVariants as symbol;
 ghost use Rattle.mm_parse_expr.specs.Symbols.{word_symbol, mark_symbol};
-ghost use Rattle.mm_parse.specs.declared.small_program.tree.TheConstants.{MAX_VARIABLES, MAX_SITES};
-ghost use Rattle.mm_parse.specs.Nesting.{limits};
+ghost use Rattle.mm_small.specs.declared.tree.TheConstants.{MAX_VARIABLES, MAX_SITES};
+ghost use Rattle.mm_grammar.specs.Nesting.{limits};
 ghost use Rattle.mm_run.specs.declared.command.Settings.TheVariants.{Instrument, ReplaySc, Replay};
 ghost use Rattle.mm_run.specs.declared.input.TheConstants.{MAX_INPUT};
 ghost use Rattle.mm_run.specs.declared.status.Status.TheVariants.{Done, Words, ReadFault, TooLong, Refused, BadSchedule, Stuck, NotFailing, WriteFault, NoMemory};
-ghost use Rattle.mm_run.specs.Settings.{settings_of};
+ghost use Rattle.mm_run.specs.Settings.{words_of};
 ghost use Rattle.mm_run.specs.Status.{number_of};
 
-/// The words of the commands: a bound is one digit from 1 to 8, and `instrument` is there for TSO alone.
-pub fn words_are_commands()
-    ensures instrument { settings_of (codes "instrument" ∷ codes "--mm" ∷ codes "tso" ∷ codes "--bound" ∷ codes "1" ∷ []) ≡ Some (Instrument Tso 1) }
-    ensures tso_alone { settings_of (codes "instrument" ∷ codes "--mm" ∷ codes "pso" ∷ codes "--bound" ∷ codes "1" ∷ []) ≡ None }
-    ensures replay { settings_of (codes "replay" ∷ codes "--mm" ∷ codes "pso" ∷ codes "--bound" ∷ codes "8" ∷ []) ≡ Some (Replay Pso 8) }
-    ensures none { settings_of (codes "replay" ∷ codes "--mm" ∷ codes "tso" ∷ codes "--bound" ∷ codes "0" ∷ []) ≡ None }
-    ensures most { settings_of (codes "replay" ∷ codes "--mm" ∷ codes "tso" ∷ codes "--bound" ∷ codes "9" ∷ []) ≡ None }
-    ensures direct { settings_of (codes "replay" ∷ codes "--mm" ∷ codes "sc" ∷ []) ≡ Some ReplaySc }
+/// The words of the commands.
+pub fn commands_have_words()
+    ensures instrument { words_of (Instrument Tso 1) ≡ codes "instrument" ∷ codes "--mm" ∷ codes "tso" ∷ codes "--bound" ∷ codes "1" ∷ [] }
+    ensures replay { words_of (Replay Pso 8) ≡ codes "replay" ∷ codes "--mm" ∷ codes "pso" ∷ codes "--bound" ∷ codes "8" ∷ [] }
+    ensures direct { words_of ReplaySc ≡ codes "replay" ∷ codes "--mm" ∷ codes "sc" ∷ [] }
 {}
 
 /// The exit statuses, and how long an input may be.

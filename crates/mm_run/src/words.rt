@@ -1,5 +1,7 @@
-ghost use Rattle.std.specs.Prelude.{◌≡◌, map, string_bytes};
-ghost use Rattle.mm_run.specs.Settings.{bound_of, command_of, model_of, settings_of, with_bound, without_bound, woven_for};
+ghost use Rattle.std.specs.Prelude.{◌≡◌, map, string_bytes, IfSome, None};
+ghost use Rattle.mm_run.specs.declared.command.Settings.{Settings as Command};
+ghost use Rattle.mm_run.specs.Settings.{AskFor};
+ghost use Rattle.mm_run.specs.reading.Words.{bound_of, command_of, model_of, settings_of, with_bound, without_bound, woven_for};
 
 use crate::command::Settings;
 use mm_goto::{Bound, Model};
@@ -70,8 +72,7 @@ fn without_bound(command: &str, mm: &str, model: &str) -> Option<Settings>
     }
 }
 
-/// What the words ask for, where they have the shape of a command.
-pub fn settings(words: &[String]) -> Option<Settings>
+fn read_words(words: &[String]) -> Option<Settings>
     ensures { result ≡ settings_of (map string_bytes words.now) }
 {
     match words {
@@ -79,4 +80,13 @@ pub fn settings(words: &[String]) -> Option<Settings>
         [command, mm, model] => without_bound(command, mm, model),
         _ => None,
     }
+}
+
+/// What the words ask for, where they have the shape of a command.
+#[tactic(auto, using(crate::proofs::Wording::asked, crate::proofs::Wording::not_asked))]
+pub fn settings(words: &[String]) -> Option<Settings>
+    ensures some { IfSome result (AskFor (map string_bytes words.now)) }
+    ensures none { result ≡ None → (s : Command) → AskFor (map string_bytes words.now) s → ⊥ }
+{
+    read_words(words)
 }

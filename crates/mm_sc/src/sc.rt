@@ -4,7 +4,7 @@ ghost use Rattle.mm_sched.specs.Event.{next};
 ghost use Rattle.mm_sched.specs.Running.{Follows};
 
 use mm_goto::{NoMemory, Program};
-use mm_sched::{Entry, Machine, Rules, Stuck};
+use mm_sched::{Entry, Interpreter, Rules, Stuck};
 use std::alloc::Global;
 use std::marker::Model;
 
@@ -12,7 +12,7 @@ use std::marker::Model;
 #[derive(Debug, Drop)]
 pub struct Sc<'a> {
     program: &'a Program,
-    machine: Machine,
+    machine: Interpreter,
 }
 
 impl<'a> Model for Sc<'a> {
@@ -26,7 +26,7 @@ impl<'a> Model for Sc<'a> {
 
     ghost view = { λ sc. record { program = sc.program.now; state = sc.machine.state } };
 
-    ghost use Rattle.mm_sched.specs.Possible.{Fits};
+    ghost use Rattle.mm_sched.specs.Invariant.{Fits};
     ghost use Rattle.mm_sched.specs.declared.entry.Rules.TheVariants as rules;
 
     ghost invariant = { λ sc. Fits rules.Sc sc.program.now sc.machine.state };
@@ -38,7 +38,7 @@ impl Sc<'_> {
         ensures program { IfOk result (λ sc. sc.program ≡ program.now) }
         ensures state { IfOk result (λ sc. sc.state ≡ initial program.now) }
     {
-        let machine = Machine::new(alloc, &Rules::Sc, program)?;
+        let machine = Interpreter::new(alloc, &Rules::Sc, program)?;
         Ok(Sc { program, machine })
     }
 

@@ -6,6 +6,7 @@ use Rattle.mm_goto.specs.declared.program.Target.{Target}
 use Rattle.mm_goto.specs.declared.program.Instr.{Instr}
 use Rattle.mm_goto.specs.declared.program.Instr.TheVariants.{Store}
 use Rattle.mm_goto.specs.declared.pure.Pure.{Pure}
+use Rattle.mm_goto.specs.Bounds.{Bounding, bound_of}
 use Rattle.mm_goto.specs.declared.model.Model.{Model}
 use Rattle.mm_goto.specs.declared.model.Model.TheVariants.{Tso, Pso}
 use Rattle.mm_sched.specs.declared.entry.Entry.{Entry}
@@ -43,7 +44,7 @@ abbrev own_flush : Model → ℕ → ℕ → Entry
 own_flush Tso t c = Flush t
 own_flush Pso t c = FlushCell t c
 
-flush-event : (m : Model) (bound : ℕ) (p : Listing) (s : State) (c : ℕ) (v : ℤ) → event (Buffered m bound) p (acted (loaded s []) 0 (Pushes c v)) (own_flush m 0 c) ≡ Some (Flushes 0 c v)
+flush-event : (m : Model) (bound : Bounding) (p : Listing) (s : State) (c : ℕ) (v : ℤ) → event (Buffered m bound) p (acted (loaded s []) 0 (Pushes c v)) (own_flush m 0 c) ≡ Some (Flushes 0 c v)
 unfolding event acted
 flush-event Tso bound p s c v = refl
 flush-event Pso bound p s c v = ap (λ b. ◌>>=◌ {A = Pending} (cond b (Some (c, v)) None) (λ q. Some (Flushes 0 q.0 q.1))) (eq-eqb c c refl)
@@ -59,7 +60,7 @@ part-none Pso c = refl
 pends-is : (m : Model) (bound : ℕ) → 1 ≤ bound → (c : ℕ) → pends m bound [] c ≡ Delayed
 pends-is m bound l c = ap (λ b. if b then Delayed else NotEnabled) (lt-ltb (length (part m [] c)) bound (omega (arith, part-none m c)))
 
-module _ (m : Model) (bound : ℕ) (room : 1 ≤ bound) (p : Listing) (one : length p.threads ≡ 1) (s : State) where
+module _ (m : Model) (bound : Bounding) (room : 1 ≤ bound_of bound 0) (p : Listing) (one : length p.threads ≡ 1) (s : State) where
   -- some entries lead from the state with nothing pending to this one
   abbrev pub Leads : State → Type 0
   Leads s' = (es : List Entry) × (run (Buffered m bound) p (loaded s []) es ≡ Some s')
@@ -73,7 +74,7 @@ module _ (m : Model) (bound : ℕ) (room : 1 ≤ bound) (p : Listing) (one : len
 
   store-is : (f : Frame) (target : Target) (e : Pure) (c : ℕ) → cell_of (length s.memory) f.locals target ≡ Some c → act (Buffered m bound) (loaded s []) 0 f (Store target e) ≡ Some (Pushes c (value_of e f.locals))
   unfolding act
-  store-is f target e c d = ap (λ (o : Option ℕ). o >>= (λ k. stored (pends m bound [] k) k (value_of e f.locals))) d ∙ ap (λ how. stored how c (value_of e f.locals)) (pends-is m bound room c)
+  store-is f target e c d = ap (λ (o : Option ℕ). o >>= (λ k. stored (pends m (bound_of bound 0) [] k) k (value_of e f.locals))) d ∙ ap (λ how. stored how c (value_of e f.locals)) (pends-is m (bound_of bound 0) room c)
 
   abbrev LeadsBy : Act → Type 0
   LeadsBy a = Leads (acted (loaded s []) 0 a)
@@ -109,7 +110,7 @@ module _ (m : Model) (bound : ℕ) (room : 1 ≤ bound) (p : Listing) (one : len
 
 -- ---- whole runs
 
-module _ (m : Model) (bound : ℕ) (room : 1 ≤ bound) (p : Listing) (one : length p.threads ≡ 1) where
+module _ (m : Model) (bound : Bounding) (room : 1 ≤ bound_of bound 0) (p : Listing) (one : length p.threads ≡ 1) where
   -- some entries lead from the one state to the other
   abbrev LeadsFrom : State → State → Type 0
   LeadsFrom s s' = (es : List Entry) × (run (Buffered m bound) p s es ≡ Some s')

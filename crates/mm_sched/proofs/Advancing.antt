@@ -12,7 +12,7 @@ use Rattle.mm_sched.specs.declared.read.Stage.TheVariants.{First, Within, Behind
 use Rattle.mm_sched.specs.declared.read.Passed.{Passed}
 use Rattle.mm_sched.specs.Guarded.{guarded}
 use Rattle.mm_sched.specs.ScheduleText.{entries_in, IsLine, first_line, last_line, AreLines, Begin}
-use Rattle.mm_sched.specs.Reading.{line_of, passed, counted, next, lines_of}
+use Rattle.mm_sched.specs.reading.Reading.{line_of, passed, counted, next, lines_of}
 use Rattle.mm_sched.proofs.Forms.{tested, line_is, line_read}
 
 -- where lines lead, and the schedule's lines among them

@@ -6,7 +6,7 @@ use Rattle.std.specs.Option.{option_map}
 use Rattle.std.proofs.lemmas.Bool.Decides.{eqb_tells, nat_tests}
 use Rattle.std.proofs.lemmas.List.Elements.{All-nil, All-cons, All-head, All-tail, All-from_get_or}
 use Rattle.std.proofs.lemmas.Str.Pattern.{IsSplitOnceResult, split_parts}
-use Rattle.mm_sched.specs.Reading.{Cut, longer, cut}
+use Rattle.mm_sched.specs.reading.Reading.{Cut, longer, cut}
 
 -- no byte of w is the mark
 abbrev pub IsFree : ℕ → List ℕ → Type 0

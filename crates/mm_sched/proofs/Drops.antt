@@ -6,6 +6,7 @@ use Rattle.std.proofs.lemmas.Option.{slice_get_past, IfSome_then}
 use Rattle.mm_goto.specs.declared.program.Thread.{Thread}
 use Rattle.mm_goto.specs.declared.program.Instr.{Instr}
 use Rattle.mm_goto.specs.declared.program.Instr.TheVariants.{Load}
+use Rattle.mm_goto.specs.Bounds.{Bounding}
 use Rattle.mm_goto.specs.declared.model.Model.{Model}
 use Rattle.mm_goto.specs.declared.model.Model.TheVariants.{Tso, Pso}
 use Rattle.mm_sched.specs.declared.entry.Entry.{Entry}
@@ -89,7 +90,7 @@ other-does p one s t what = go (slice_get s.threads (suc t))
     go None = refl
     go (Some f) = ap (λ (o : Option Thread). rest f (o >>= (λ thread. slice_get thread.code f.place))) (slice_get_past p.threads (suc t) (omega arith))
 
-module _ (m : Model) (bound : ℕ) (p : Listing) (valid : IsValid p) (one : length p.threads ≡ 1) (s : State) (ps : List Pending) (cells : length s.memory ≡ length p.cells) where
+module _ (m : Model) (bound : Bounding) (p : Listing) (valid : IsValid p) (one : length p.threads ≡ 1) (s : State) (ps : List Pending) (cells : length s.memory ≡ length p.cells) where
   -- what the entries that are kept lead to without store buffers
   abbrev pub DropsTo : Entry → State → Type 0
   DropsTo e s' = run Sc p (settled s ps) (kept e) ≡ Some (settle s')
@@ -153,7 +154,7 @@ module _ (m : Model) (bound : ℕ) (p : Listing) (valid : IsValid p) (one : leng
 
 -- ---- whole runs
 
-module _ (m : Model) (bound : ℕ) (p : Listing) (valid : IsValid p) (one : length p.threads ≡ 1) where
+module _ (m : Model) (bound : Bounding) (p : Listing) (valid : IsValid p) (one : length p.threads ≡ 1) where
   step-drops : (s : State) (e : Entry) → Fits p s → IfSome (next (Buffered m bound) p s e) (λ s'. run Sc p (settle s) (kept e) ≡ Some (settle s'))
   step-drops s e h = subst (λ (z : State). IfSome (next (Buffered m bound) p z e) (λ s'. run Sc p (settle z) (kept e) ≡ Some (settle s'))) (sym (fits-loaded p s h)) (entry-drops m bound p valid one s (pending_of s 0) h.memory e)
 
@@ -183,7 +184,7 @@ starts-fit p one = record {
   pending = length-map {B = List Pending} p.threads (λ thread. []) ∙ one;
 }
 
-pub drops : (m : Model) (bound : ℕ) (p : Listing) → IsValid p → length p.threads ≡ 1 → (n : ℕ) → Reaches (Buffered m bound) p n → Reaches Sc p n
+pub drops : (m : Model) (bound : Bounding) (p : Listing) → IsValid p → length p.threads ≡ 1 → (n : ℕ) → Reaches (Buffered m bound) p n → Reaches Sc p n
 drops m bound p valid one n h = (
   flat_map kept h.0,
   record {

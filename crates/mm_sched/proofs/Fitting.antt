@@ -3,6 +3,7 @@ use Rattle.std.proofs.Common.{arith, ◌≡◌, ℕ, zero, suc, ◌≤◌, ◌<�
 use Rattle.std.specs.List.{filter}
 use Rattle.std.proofs.lemmas.List.{length-map, length-replicate}
 use Rattle.std.proofs.lemmas.List.Elements.{All-nil, All-cons, All-head, All-tail, All-push}
+use Rattle.mm_goto.specs.Bounds.{bound_of}
 use Rattle.mm_goto.specs.declared.model.Model.{Model}
 use Rattle.mm_goto.specs.declared.model.Model.TheVariants.{Tso, Pso}
 use Rattle.mm_goto.specs.declared.program.Thread.{Thread}
@@ -18,7 +19,7 @@ use Rattle.mm_sched.specs.declared.entry.Event.TheVariants.{Does, Flushes}
 use Rattle.mm_sched.specs.State.{Frame, State, Pending, initial, frame_of, pending_of, idle, all_at_start, at_start}
 use Rattle.mm_sched.specs.Buffer.{is_to, part, without}
 use Rattle.mm_sched.specs.Event.{done, framed, acted, flushed, after, event, next}
-use Rattle.mm_sched.specs.Possible.{IsBounded, Fits, room_of}
+use Rattle.mm_sched.specs.Invariant.{IsBounded, Fits, room_of}
 use Rattle.mm_sched.proofs.Steps.{map-with, if-at}
 use Rattle.mm_sched.proofs.Quiet.{no-pending}
 use Rattle.mm_sched.proofs.Drops.{acted-memory, acted-pending}
@@ -43,12 +44,12 @@ starts-locals (x ∷ xs) (suc t) thread e = others xs t e
     others (y ∷ ys) zero d = let same : y ≡ thread = cc in length-replicate y.locals (pos 0) ∙ ap (λ z. z.locals) same
     others (y ∷ ys) (suc k) d = others ys k d
 
-nothing-bounded : (r : Rules) → IsBounded r []
-nothing-bounded Sc = refl
-nothing-bounded (Buffered Tso bound) = λ c. omega arith
-nothing-bounded (Buffered Pso bound) = λ c. omega arith
-nothing-bounded (Partial Tso bound set) = λ c. omega arith
-nothing-bounded (Partial Pso bound set) = λ c. omega arith
+nothing-bounded : (r : Rules) (t : ℕ) → IsBounded r t []
+nothing-bounded Sc t = refl
+nothing-bounded (Buffered Tso bound) t = λ c. omega arith
+nothing-bounded (Buffered Pso bound) t = λ c. omega arith
+nothing-bounded (Partial Tso bound set) t = λ c. omega arith
+nothing-bounded (Partial Pso bound set) t = λ c. omega arith
 
 pub initial_fits : (r : Rules) (p : Listing) → IsValid p → Fits r p (initial p)
 unfolding initial
@@ -60,7 +61,7 @@ initial_fits r p valid = record {
   pending = length-map p.threads _;
   locals = starts-locals p.threads;
   cells = λ t. subst (AreTo (length p.cells)) (sym (no-pending p.threads t)) (All-nil (λ q. q.0 < length p.cells));
-  bounded = λ t. subst (IsBounded r) (sym (no-pending p.threads t)) (nothing-bounded r);
+  bounded = λ t. subst (IsBounded r t) (sym (no-pending p.threads t)) (nothing-bounded r t);
 }
 
 -- ---- acts
@@ -99,14 +100,14 @@ acted-owners s t (Gives k) = length-set s.owners k None
 acted-owners s t _ = refl
 
 -- what holds of each list of pending stores holds where one that has it stands in place of another
-set-keeps : (P : List Pending → Type 0) (xs : List (List Pending)) (t u : ℕ) (ps : List Pending) → P ps → P (slice_index_or xs u []) → P (slice_index_or (slice_set xs t ps) u [])
+set-keeps : (P : List Pending → Type 0) (xs : List (List Pending)) (t u : ℕ) (ps : List Pending) → (t ≡ u → P ps) → P (slice_index_or xs u []) → P (slice_index_or (slice_set xs t ps) u [])
 set-keeps P [] t u ps h k = k
-set-keeps P (x ∷ xs) zero zero ps h k = h
+set-keeps P (x ∷ xs) zero zero ps h k = h refl
 set-keeps P (x ∷ xs) zero (suc u) ps h k = k
 set-keeps P (x ∷ xs) (suc t) zero ps h k = k
-set-keeps P (x ∷ xs) (suc t) (suc u) ps h k = set-keeps P xs t u ps h k
+set-keeps P (x ∷ xs) (suc t) (suc u) ps h k = set-keeps P xs t u ps (λ e. h (ap suc e)) k
 
-acted-keeps : (P : List Pending → Type 0) (s : State) (t u : ℕ) (a : Act) → ((c : ℕ) (v : ℤ) → a ≡ Pushes c v → P (pending_of s t ++ (c, v) ∷ [])) → P (pending_of s u) → P (pending_of (acted s t a) u)
+acted-keeps : (P : List Pending → Type 0) (s : State) (t u : ℕ) (a : Act) → ((c : ℕ) (v : ℤ) → a ≡ Pushes c v → t ≡ u → P (pending_of s t ++ (c, v) ∷ [])) → P (pending_of s u) → P (pending_of (acted s t a) u)
 unfolding acted
 acted-keeps P s t u (Pushes c v) h k = set-keeps P s.pending t u (pending_of s t ++ (c, v) ∷ []) (h c v refl) k
 acted-keeps P s t u _ h k = k
@@ -152,10 +153,10 @@ without-part : (m : Model) (ps : List Pending) (c d bound : ℕ) → length (par
 without-part Tso ps c d bound h = omega (arith, without-length ps c)
 without-part Pso ps c d bound h = omega (arith, without-fewer (is_to d) ps c)
 
-without-bounded : (r : Rules) (ps : List Pending) (c : ℕ) → IsBounded r ps → IsBounded r (without ps c)
-without-bounded Sc ps c h = subst (λ (qs : List Pending). without qs c ≡ []) (sym h) refl
-without-bounded (Buffered m bound) ps c h = λ d. without-part m ps c d bound (h d)
-without-bounded (Partial m bound set) ps c h = λ d. without-part m ps c d bound (h d)
+without-bounded : (r : Rules) (t : ℕ) (ps : List Pending) (c : ℕ) → IsBounded r t ps → IsBounded r t (without ps c)
+without-bounded Sc t ps c h = subst (λ (qs : List Pending). without qs c ≡ []) (sym h) refl
+without-bounded (Buffered m bound) t ps c h = λ d. without-part m ps c d (bound_of bound t) (h d)
+without-bounded (Partial m bound set) t ps c h = λ d. without-part m ps c d (bound_of bound t) (h d)
 
 -- ---- steps
 
@@ -168,8 +169,8 @@ module _ (r : Rules) (p : Listing) (s : State) (fits : Fits r p s) where
     threads = acted-threads s t a ∙ fits.threads;
     pending = acted-pending s t a ∙ fits.pending;
     locals = λ u thread at. acted-locals s t u a ∙ fits.locals u thread at;
-    cells = λ u. acted-keeps (AreTo (length p.cells)) s t u a (λ c v e. All-push (λ q. q.0 < length p.cells) (pending_of s t) (c, v) (fits.cells t) (subst (λ n. c < n) fits.memory (pushes-sound r s t a c v h e).0)) (fits.cells u);
-    bounded = λ u. acted-keeps (IsBounded r) s t u a (λ c v e. (pushes-sound r s t a c v h e).1) (fits.bounded u);
+    cells = λ u. acted-keeps (AreTo (length p.cells)) s t u a (λ c v e here. All-push (λ q. q.0 < length p.cells) (pending_of s t) (c, v) (fits.cells t) (subst (λ n. c < n) fits.memory (pushes-sound r s t a c v h e).0)) (fits.cells u);
+    bounded = λ u. acted-keeps (IsBounded r u) s t u a (λ c v e here. subst (λ k. IsBounded r k (pending_of s t ++ (c, v) ∷ [])) here (pushes-sound r s t a c v h e).1) (fits.bounded u);
   }
 
   flushed-fits : (t c : ℕ) (v : ℤ) → Fits r p (flushed s t c v)
@@ -181,8 +182,8 @@ module _ (r : Rules) (p : Listing) (s : State) (fits : Fits r p s) where
     threads = fits.threads;
     pending = length-set s.pending t (without (pending_of s t) c) ∙ fits.pending;
     locals = fits.locals;
-    cells = λ u. set-keeps (AreTo (length p.cells)) s.pending t u (without (pending_of s t) c) (without-to (length p.cells) (pending_of s t) c (fits.cells t)) (fits.cells u);
-    bounded = λ u. set-keeps (IsBounded r) s.pending t u (without (pending_of s t) c) (without-bounded r (pending_of s t) c (fits.bounded t)) (fits.bounded u);
+    cells = λ u. set-keeps (AreTo (length p.cells)) s.pending t u (without (pending_of s t) c) (λ here. without-to (length p.cells) (pending_of s t) c (fits.cells t)) (fits.cells u);
+    bounded = λ u. set-keeps (IsBounded r u) s.pending t u (without (pending_of s t) c) (λ here. subst (λ k. IsBounded r k (without (pending_of s t) c)) here (without-bounded r t (pending_of s t) c (fits.bounded t))) (fits.bounded u);
   }
 
   after-fits : (v : Event) → IsSoundEvent r s v → Fits r p (after s v)
@@ -198,4 +199,4 @@ module _ (r : Rules) (p : Listing) (s : State) (fits : Fits r p s) where
 
   -- no more is pending than there is room for
   pub pending_within : (t : ℕ) → length (pending_of s t) ≤ room_of r (length p.cells)
-  pending_within t = bounded-room r (length p.cells) (pending_of s t) (fits.cells t) (fits.bounded t)
+  pending_within t = bounded-room r t (length p.cells) (pending_of s t) (fits.cells t) (fits.bounded t)

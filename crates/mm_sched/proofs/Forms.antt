@@ -11,7 +11,7 @@ use Rattle.mm_sched.specs.declared.entry.Entry.TheVariants.{Step, In, Flush, Flu
 use Rattle.mm_sched.specs.declared.schedule.Line.{Line}
 use Rattle.mm_sched.specs.Guarded.{guarded}
 use Rattle.mm_sched.specs.ScheduleText.{step_text, steps_text, in_text, flush_text, flush_cell_text, IsEntry, Says, IsLine}
-use Rattle.mm_sched.specs.Reading.{Cut, cut, number_of, int_of, blank, step_of, steps_of, in_of, flush_all_of, flush_cell_of, flush_of, form_of, line_of}
+use Rattle.mm_sched.specs.reading.Reading.{Cut, cut, number_of, int_of, blank, step_of, steps_of, in_of, flush_all_of, flush_cell_of, flush_of, form_of, line_of}
 use Rattle.mm_sched.specs.ScheduleText.{times}
 use Rattle.mm_sched.proofs.Cutting.{cut_in, cut_at, cut_none, is_cut}
 use Rattle.mm_sched.proofs.Numerals.{is_written, number_of_decimal, decimal_free, int_is_written, int_of_decimal, one_above}

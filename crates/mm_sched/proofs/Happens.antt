@@ -4,6 +4,7 @@ use Rattle.std.specs.List.{filter, find}
 use Rattle.std.proofs.lemmas.Bool.{ltb-true, eqb-true}
 use Rattle.std.proofs.lemmas.Option.{slice_get_within, get_or_from_slice_get, IfSome_then}
 use Rattle.std.proofs.lemmas.List.Elements.{All-head, All-tail, All-push, filter-append}
+use Rattle.mm_goto.specs.Bounds.{bound_of}
 use Rattle.mm_goto.specs.declared.model.Model.{Model}
 use Rattle.mm_goto.specs.declared.model.Model.TheVariants.{Tso, Pso}
 use Rattle.mm_goto.specs.declared.program.Instr.{Instr}
@@ -24,7 +25,7 @@ use Rattle.mm_sched.specs.State.{Frame, State, Pending, frame_of, pending_of, at
 use Rattle.mm_sched.specs.Buffer.{is_empty, is_to, part, seen, pends, writes, is_in, store_of, flush_under, flush_of}
 use Rattle.mm_sched.specs.Event.{cell_of, may_step, fetched, stored, locked, unlocked, begun, joined, is_owner, is_open_to, act, input, does, flushes, event}
 use Rattle.mm_sched.specs.Running.{Roomy}
-use Rattle.mm_sched.specs.Possible.{IsBounded, IsWithin, Fits, IsLocalWithin, IsThere, CanHappen, room_of}
+use Rattle.mm_sched.specs.Invariant.{IsBounded, IsWithin, Fits, IsLocalWithin, IsThere, CanHappen, room_of}
 use Rattle.mm_sched.proofs.Steps.{guarded-if, bind-if, bind-with, either-if, bind-there, guarded-there, if-at}
 use Rattle.mm_sched.proofs.Within.{All-get}
 use Rattle.mm_sched.proofs.Possibly.{target_within, fetched_within, fetched_place}
@@ -35,7 +36,7 @@ use Rattle.mm_sched.proofs.Rooms.{AreTo, bounded-room}
 
 -- what the act of thread t changes is there, and no more are pending than the rules let be
 abbrev pub IsSound : Rules → State → ℕ → Act → Type 0
-IsSound r s t (Pushes c v) = (c < length s.memory) × IsBounded r (pending_of s t ++ (c, v) ∷ [])
+IsSound r s t (Pushes c v) = (c < length s.memory) × IsBounded r t (pending_of s t ++ (c, v) ∷ [])
 IsSound r s t (Puts c v) = c < length s.memory
 IsSound r s t (Updates l v c w) = c < length s.memory
 IsSound r s t (Takes k) = k < length s.owners
@@ -109,13 +110,13 @@ module _ (r : Rules) (s : State) (t : ℕ) (thread : t < length s.threads) (plac
       go true = h
       go false = tt
 
-store-sound : (r : Rules) (s : State) (t k c : ℕ) (v : ℤ) → t < length s.threads → (frame_of s t).place + 1 < 2 ^ 32 → (frame_of s t).started ≡ true → IsBounded r (pending_of s t) → c < length s.memory → IfSome (stored (store_of r t k (pending_of s t) c) c v) (Sound r s t)
+store-sound : (r : Rules) (s : State) (t k c : ℕ) (v : ℤ) → t < length s.threads → (frame_of s t).place + 1 < 2 ^ 32 → (frame_of s t).started ≡ true → IsBounded r t (pending_of s t) → c < length s.memory → IfSome (stored (store_of r t k (pending_of s t) c) c v) (Sound r s t)
 store-sound Sc s t k c v thread place started h l = sound Sc s t thread place started (Puts c v) tt l
-store-sound (Buffered m bound) s t k c v thread place started h l = pends-sound (Buffered m bound) s t thread place started m bound c v (λ few. sound (Buffered m bound) s t thread place started (Pushes c v) tt (l, push-bounded m bound (pending_of s t) c v h few))
+store-sound (Buffered m bound) s t k c v thread place started h l = pends-sound (Buffered m bound) s t thread place started m (bound_of bound t) c v (λ few. sound (Buffered m bound) s t thread place started (Pushes c v) tt (l, push-bounded m (bound_of bound t) (pending_of s t) c v h few))
 store-sound (Partial m bound set) s t k c v thread place started h l = go (is_in set t k)
   where
-    go : (b : Bool) → IfSome (stored (if b then pends m bound (pending_of s t) c else writes m (pending_of s t) c) c v) (Sound (Partial m bound set) s t)
-    go true = pends-sound (Partial m bound set) s t thread place started m bound c v (λ few. sound (Partial m bound set) s t thread place started (Pushes c v) tt (l, push-bounded m bound (pending_of s t) c v h few))
+    go : (b : Bool) → IfSome (stored (if b then pends m (bound_of bound t) (pending_of s t) c else writes m (pending_of s t) c) c v) (Sound (Partial m bound set) s t)
+    go true = pends-sound (Partial m bound set) s t thread place started m (bound_of bound t) c v (λ few. sound (Partial m bound set) s t thread place started (Pushes c v) tt (l, push-bounded m (bound_of bound t) (pending_of s t) c v h few))
     go false = writes-sound (Partial m bound set) s t thread place started m c v (sound (Partial m bound set) s t thread place started (Puts c v) tt l)
 
 module _ (r : Rules) (s : State) (t : ℕ) (thread : t < length s.threads) (place : (frame_of s t).place + 1 < 2 ^ 32) (started : (frame_of s t).started ≡ true) where
@@ -125,7 +126,7 @@ module _ (r : Rules) (s : State) (t : ℕ) (thread : t < length s.threads) (plac
   ok : (a : Act) → IsLocalWithin (length (frame_of s t).locals) a → IsSound r s t a → Is a
   ok = sound r s t thread place started
 
-  act-sound : (i : Instr) → IsBounded r (pending_of s t) → IsWithin (length s.memory) (length (frame_of s t).locals) i → IfSome (act r s t (frame_of s t) i) Is
+  act-sound : (i : Instr) → IsBounded r t (pending_of s t) → IsWithin (length s.memory) (length (frame_of s t).locals) i → IfSome (act r s t (frame_of s t) i) Is
   unfolding act
   act-sound (Set l e) b h = ok (Assigns l _) h.0 tt
   act-sound (Load l target) b h = bind-if Is (cell_of (length s.memory) (frame_of s t).locals target) (λ c. Some (Loads l c (seen s t c))) (λ c. ok (Loads l c (seen s t c)) h.0 tt)
@@ -231,7 +232,7 @@ event-sound r p s (FlushCell t c) fits = flushes-sound r p s t (FlushCell t c) f
 module _ (r : Rules) (p : Listing) (m : Roomy) (fits : Fits r p m.state) (room : room_of r (length p.cells) ≤ m.room) where
   there-can : (t : ℕ) (a : Act) → Sound r m.state t a → IsThere m t a
   there-can t (Pushes c v) h =
-      let all : length (pending_of m.state t ++ (c, v) ∷ []) ≤ room_of r (length p.cells) = bounded-room r (length p.cells) (pending_of m.state t ++ (c, v) ∷ []) (All-push (λ q. q.0 < length p.cells) (pending_of m.state t) (c, v) (fits.cells t) (subst (λ n. c < n) fits.memory h.there.0)) h.there.1 in
+      let all : length (pending_of m.state t ++ (c, v) ∷ []) ≤ room_of r (length p.cells) = bounded-room r t (length p.cells) (pending_of m.state t ++ (c, v) ∷ []) (All-push (λ q. q.0 < length p.cells) (pending_of m.state t) (c, v) (fits.cells t) (subst (λ n. c < n) fits.memory h.there.0)) h.there.1 in
       omega (arith, length-append (pending_of m.state t) ((c, v) ∷ []))
   there-can t (Puts c v) h = h.there
   there-can t (Updates l v c w) h = h.there

@@ -9,7 +9,7 @@ use Rattle.mm_sched.specs.declared.read.Stage.{Stage}
 use Rattle.mm_sched.specs.declared.read.Stage.TheVariants.{First, Within, Behind}
 use Rattle.mm_sched.specs.declared.read.Passed.{Passed}
 use Rattle.mm_sched.specs.ScheduleText.{Says, first_line}
-use Rattle.mm_sched.specs.Reading.{next, passed}
+use Rattle.mm_sched.specs.reading.Reading.{next, passed}
 use Rattle.mm_sched.proofs.Forms.{line_is}
 use Rattle.mm_sched.proofs.Advancing.{IsNext, next_is, guarded_some}
 

@@ -65,7 +65,7 @@ laid-without (x ∷ ps) c q e memory = go (x.0 == c) refl e (laid-without ps c q
     go false d f ih = ap (λ mid. laid mid (without ps c)) (set_comm memory c x.0 q.1 x.1 (λ h. let a : true ≡ false = sym (eq-eqb x.0 c (sym h)) ∙ d in cc)) ∙ ih f (slice_set memory x.0 x.1)
 
 -- the first of those to the cell
-found-to : (ps : List Pending) (c : ℕ) → IfSome (find (is_to c) ps) (λ q. (q.0 ≡ c) × (find (is_to c) ps ≡ Some q))
+pub found-to : (ps : List Pending) (c : ℕ) → IfSome (find (is_to c) ps) (λ q. (q.0 ≡ c) × (find (is_to c) ps ≡ Some q))
 found-to [] c = tt
 found-to (x ∷ ps) c = go (x.0 == c) refl (found-to ps c)
   where

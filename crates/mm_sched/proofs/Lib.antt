@@ -3,11 +3,13 @@ pub mod Advancing
 pub mod Computing
 pub mod Cutting
 pub mod Drops
+pub mod Failures
 pub mod Fitting
 pub mod Forms
 pub mod Happens
 pub mod InTime
 pub mod Joins
+pub mod Kindwise
 pub mod Laid
 pub mod Matched
 pub mod Numerals
@@ -24,4 +26,5 @@ pub mod Settled
 pub mod Spelled
 pub mod Steps
 pub mod TextParts
+pub mod Turns
 pub mod Within

@@ -17,7 +17,7 @@ use Rattle.mm_sched.specs.declared.entry.Act.TheVariants.{Starts}
 use Rattle.mm_sched.specs.State.{Frame, State, frame_of, idle}
 use Rattle.mm_sched.specs.Running.{Roomy}
 use Rattle.mm_sched.specs.Event.{cell_of, fetched, done}
-use Rattle.mm_sched.specs.Possible.{IsTargetWithin, IsWithin, Fits, CanDo}
+use Rattle.mm_sched.specs.Invariant.{IsTargetWithin, IsWithin, Fits, CanDo}
 use Rattle.mm_sched.proofs.Steps.{if-at}
 use Rattle.mm_sched.proofs.Within.{All-get, element-within, pointee-within}
 
@@ -39,7 +39,7 @@ instr-in p thread (Load l target) h = (h.0, target-in p thread target h.1)
 instr-in p thread (Store target e) h = (target-in p thread target h.0, h.1.locals)
 instr-in p thread (Input l) h = h
 instr-in p thread (Branch e k) h = h.0.locals
-instr-in p thread (Assert e n) h = h.locals
+instr-in p thread (Assert e n) h = h.0.locals
 instr-in p thread (Assume e) h = h.locals
 instr-in p thread (Add l target e) h = (h.0, target-in p thread target h.1, h.2.locals)
 instr-in p thread (Cas l target e g) h = (h.0, target-in p thread target h.1, h.2.locals, h.3.locals)

@@ -1,5 +1,5 @@
 -- Under sequential consistency nothing is ever pending.
-use Rattle.std.proofs.Common.{rules, ◌≡◌, ℕ, zero, suc, ℤ, Bool, List, [], ◌∷◌, map, slice_get, slice_index_or, Option, Some, None, refl, ap, ◌∙◌, IfSome}
+use Rattle.std.proofs.Common.{rules, ◌≡◌, ℕ, zero, suc, ℤ, List, [], ◌∷◌, map, slice_get, slice_index_or, Option, Some, None, refl, ap, ◌∙◌, IfSome}
 use Rattle.mm_goto.specs.declared.program.Thread.{Thread}
 use Rattle.mm_goto.specs.declared.program.Instr.{Instr}
 use Rattle.mm_goto.specs.declared.program.Instr.TheVariants.{Set, Load, Store, Input, Jump, Branch, Assert, Assume, Fence, Lock, Unlock, Add, Cas, Start, Join, AtomBegin, AtomEnd, End}
@@ -13,9 +13,9 @@ use Rattle.mm_sched.specs.declared.entry.Event.TheVariants.{Does, Flushes}
 use Rattle.mm_sched.specs.Guarded.{◌>>=◌, guarded}
 use Rattle.mm_goto.specs.Listing.{Listing}
 use Rattle.mm_sched.specs.State.{Frame, State, Pending, initial, pending_of}
-use Rattle.mm_sched.specs.Event.{act, acted, after, event, next, locked, unlocked, begun, joined, input, does, fetched, may_step}
+use Rattle.mm_sched.specs.Event.{act, acted, after, event, next, input, does, fetched, may_step}
 use Rattle.mm_sched.specs.Runs.{run}
-use Rattle.mm_sched.proofs.Steps.{guarded-if, bind-if, bind-with, map-with, either-if, if-at}
+use Rattle.mm_sched.proofs.Steps.{guarded-if, bind-if, bind-with, map-with, either-if, if-at, locked-if, unlocked-if, begun-if, joined-if}
 
 -- the act makes no store pending
 abbrev pub IsQuiet : Act → Type 0
@@ -40,23 +40,7 @@ abbrev pub IsQuietEvent : Event → Type 0
 IsQuietEvent (Does t a) = IsQuiet a
 IsQuietEvent (Flushes t c v) = ⊥
 
-locked-quiet : (o : Option (Option ℕ)) (m : ℕ) → IfSome (locked o m) IsQuiet
-locked-quiet None m = tt
-locked-quiet (Some owner) m = search (rules, guarded-if)
-
-unlocked-quiet : (o : Option (Option ℕ)) (t m : ℕ) → IfSome (unlocked o t m) IsQuiet
-unlocked-quiet None t m = tt
-unlocked-quiet (Some owner) t m = search (rules, guarded-if)
-
-begun-quiet : (o : Option Frame) (u : ℕ) → IfSome (begun o u) IsQuiet
-begun-quiet None u = tt
-begun-quiet (Some g) u = search (rules, guarded-if)
-
-joined-quiet : (o : Option Frame) (empty : Bool) (u : ℕ) → IfSome (joined o empty u) IsQuiet
-joined-quiet None empty u = tt
-joined-quiet (Some g) empty u = search (rules, guarded-if)
-
-ruleset quiet = (guarded-if, bind-if, either-if, locked-quiet, unlocked-quiet, begun-quiet, joined-quiet)
+ruleset quiet = (guarded-if, bind-if, either-if, locked-if, unlocked-if, begun-if, joined-if)
 
 act-quiet : (s : State) (t : ℕ) (f : Frame) (i : Instr) → IfSome (act Sc s t f i) IsQuiet
 unfolding act

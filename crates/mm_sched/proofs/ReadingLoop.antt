@@ -6,7 +6,7 @@ use Rattle.mm_sched.specs.declared.read.Stage.{Stage}
 use Rattle.mm_sched.specs.declared.read.Stage.TheVariants.{First}
 use Rattle.mm_sched.specs.declared.read.Passed.{Passed}
 use Rattle.mm_sched.specs.ScheduleText.{newline, HasKept, IsFault}
-use Rattle.mm_sched.specs.Reading.{Cut, cut, next, lines_of, parts, onto, is_ended, read_text, HasSome, IsRead}
+use Rattle.mm_sched.specs.reading.Reading.{Cut, cut, next, lines_of, parts, onto, is_ended, read_text, HasSome, IsRead}
 use Rattle.mm_sched.proofs.Cutting.{is_cut}
 use Rattle.mm_sched.proofs.TextParts.{parts_cut, parts_uncut}
 use Rattle.mm_sched.proofs.InTime.{IsInTime, line_is_behind}

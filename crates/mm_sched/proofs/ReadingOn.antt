@@ -13,7 +13,7 @@ use Rattle.mm_sched.specs.declared.read.Stage.{Stage}
 use Rattle.mm_sched.specs.declared.read.Stage.TheVariants.{First, Within, Behind}
 use Rattle.mm_sched.specs.declared.read.Passed.{Passed}
 use Rattle.mm_sched.specs.ScheduleText.{newline, whole, IsUnfinished, IsEntry, Says, IsLine, first_line, last_line, AreLines, IsSchedule, Begin, Stops, IsBadLine}
-use Rattle.mm_sched.specs.Reading.{parts, next, lines_of, onto, ended, continued, read_on, read_text}
+use Rattle.mm_sched.specs.reading.Reading.{parts, next, lines_of, onto, ended, continued, read_on, read_text}
 use Rattle.mm_sched.proofs.Numerals.{decimal_free, signed_free}
 use Rattle.mm_sched.proofs.TextParts.{AllFree, parts_line, parts_left, parts_whole, are_parts}
 use Rattle.mm_sched.proofs.Advancing.{Went, went, behind, advance, advance-append, advance_schedule, schedule_advanced, begin_advances, advances_begin}

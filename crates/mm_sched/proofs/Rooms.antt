@@ -3,13 +3,14 @@ use Rattle.std.proofs.Common.{arith, ◌≡◌, ℕ, zero, suc, ◌+◌, ◌*◌
 use Rattle.std.specs.List.{filter}
 use Rattle.std.proofs.lemmas.List.Elements.{All-head, All-tail, All-cons, All-nil}
 use Rattle.std.proofs.lemmas.List.Filters.{length-filter_both}
+use Rattle.mm_goto.specs.Bounds.{Bounding, bound_of, greatest}
 use Rattle.mm_goto.specs.declared.model.Model.{Model}
 use Rattle.mm_goto.specs.declared.model.Model.TheVariants.{Tso, Pso}
 use Rattle.mm_sched.specs.declared.entry.Rules.{Rules}
 use Rattle.mm_sched.specs.declared.entry.Rules.TheVariants.{Sc, Buffered, Partial}
 use Rattle.mm_sched.specs.State.{Pending}
 use Rattle.mm_sched.specs.Buffer.{is_to, part}
-use Rattle.mm_sched.specs.Possible.{IsBounded, room_under, room_of}
+use Rattle.mm_sched.specs.Invariant.{IsBounded, room_under, room_of}
 
 -- each pending store is to one of so many cells
 abbrev pub AreTo : ℕ → List Pending → Type 0
@@ -54,12 +55,16 @@ pigeonhole bound (suc cells) ps h k =
     let both : length (filter (is_to cells) ps) + length (filter (is_not_to cells) ps) ≡ length ps = length-filter_both (is_to cells) (is_not_to cells) (λ x. refl) ps in
     grind arith
 
-room-under : (m : Model) (bound cells : ℕ) (ps : List Pending) → AreTo cells ps → ((c : ℕ) → length (part m ps c) ≤ bound) → length ps ≤ room_under m bound cells
-room-under Tso bound cells ps h k = k 0
-room-under Pso bound cells ps h k = pigeonhole bound cells ps h k
+-- no thread's number is above the greatest
+below-greatest : (bound : Bounding) (t : ℕ) → bound_of bound t ≤ greatest bound
+below-greatest bound t = omega arith
+
+room-under : (m : Model) (bound : Bounding) (t cells : ℕ) (ps : List Pending) → AreTo cells ps → ((c : ℕ) → length (part m ps c) ≤ bound_of bound t) → length ps ≤ room_under m bound cells
+room-under Tso bound t cells ps h k = omega (arith, k 0, below-greatest bound t)
+room-under Pso bound t cells ps h k = pigeonhole (greatest bound) cells ps h (λ c. omega (arith, k c, below-greatest bound t))
 
 -- what the rules let be pending has room
-pub bounded-room : (r : Rules) (cells : ℕ) (ps : List Pending) → AreTo cells ps → IsBounded r ps → length ps ≤ room_of r cells
-bounded-room Sc cells ps h e = omega (arith, ap length e)
-bounded-room (Buffered m bound) cells ps h k = room-under m bound cells ps h k
-bounded-room (Partial m bound set) cells ps h k = room-under m bound cells ps h k
+pub bounded-room : (r : Rules) (t cells : ℕ) (ps : List Pending) → AreTo cells ps → IsBounded r t ps → length ps ≤ room_of r cells
+bounded-room Sc t cells ps h e = omega (arith, ap length e)
+bounded-room (Buffered m bound) t cells ps h k = room-under m bound t cells ps h k
+bounded-room (Partial m bound set) t cells ps h k = room-under m bound t cells ps h k

@@ -13,7 +13,7 @@ use Rattle.mm_sched.specs.declared.schedule.TheConstants.{FULL, MAX_ENTRIES}
 use Rattle.mm_sched.specs.ScheduleText.{newline, whole, entries_in, step_text, steps_text, IsEntry, Says, IsLine, first_line, last_line, IsSchedule}
 use Rattle.mm_sched.specs.Spelling.{is_same_step, in_front, runs, last_part, run_lines, spelled_lines, text_of, line_text, spell}
 use Rattle.mm_sched.specs.ScheduleText.{times}
-use Rattle.mm_sched.specs.Writing.{lines_text}
+use Rattle.mm_sched.specs.reading.Writing.{lines_text}
 use Rattle.mm_sched.proofs.Numerals.{one_above}
 use Rattle.mm_sched.proofs.Spelled.{same_is}
 

@@ -1,10 +1,11 @@
 -- A machine with one thread, and the same where what the thread has pending has reached memory: what the thread does in
 -- the one with store buffers, it does in the other without.
-use Rattle.std.proofs.Common.{rules, ◌≡◌, ℕ, ◌<◌, ℤ, Bool, true, false, List, [], ◌∷◌, length, Option, Some, None, refl, sym, ap, subst, IfSome, if◌then◌else◌, nat_lt}
+use Rattle.std.proofs.Common.{rules, ◌≡◌, ℕ, ◌<◌, ℤ, Bool, true, false, List, [], ◌∷◌, length, Option, Some, refl, sym, ap, subst, IfSome, if◌then◌else◌, nat_lt}
 use Rattle.mm_goto.specs.declared.program.Target.{Target}
 use Rattle.mm_goto.specs.declared.program.Instr.{Instr}
 use Rattle.mm_goto.specs.declared.program.Instr.TheVariants.{Set, Load, Store, Input, Jump, Branch, Assert, Assume, Fence, Lock, Unlock, Add, Cas, Start, Join, AtomBegin, AtomEnd, End}
 use Rattle.mm_goto.specs.declared.pure.Pure.{Pure}
+use Rattle.mm_goto.specs.Bounds.{Bounding, bound_of}
 use Rattle.mm_goto.specs.declared.model.Model.{Model}
 use Rattle.mm_sched.specs.declared.entry.Rules.TheVariants.{Sc, Buffered}
 use Rattle.mm_sched.specs.declared.entry.How.TheVariants.{Delayed, NotEnabled}
@@ -13,9 +14,9 @@ use Rattle.mm_sched.specs.declared.entry.Act.TheVariants.{Goes, Assigns, Fails, 
 use Rattle.mm_sched.specs.Guarded.{◌>>=◌}
 use Rattle.mm_sched.specs.State.{Frame, State, Pending, pending_of, at_cell}
 use Rattle.mm_sched.specs.Buffer.{is_empty, seen, part, pends}
-use Rattle.mm_sched.specs.Event.{act, acted, cell_of, stored, locked, unlocked, begun, joined, input}
+use Rattle.mm_sched.specs.Event.{act, acted, cell_of, stored, input}
 use Rattle.mm_goto.specs.Value.{value_of}
-use Rattle.mm_sched.proofs.Steps.{guarded-if, bind-if, either-if, if-at}
+use Rattle.mm_sched.proofs.Steps.{guarded-if, bind-if, either-if, if-at, locked-if, unlocked-if, begun-if, joined-if}
 use Rattle.mm_sched.proofs.Laid.{laid, laid-append, laid-reads, length-laid}
 use Rattle.mm_sched.proofs.Matched.{Matched, matched-bind, matched-same}
 
@@ -71,30 +72,14 @@ push-settles s ps c v = ap (λ memory. record (acted (settled s ps) 0 (Puts c v)
 
 -- ---- what the thread does
 
-locked-ready : (ps : List Pending) (o : Option (Option ℕ)) (m : ℕ) → IfSome (locked o m) (IsReady ps)
-locked-ready ps None m = tt
-locked-ready ps (Some owner) m = search (rules, guarded-if)
-
-unlocked-ready : (ps : List Pending) (o : Option (Option ℕ)) (t m : ℕ) → IfSome (unlocked o t m) (IsReady ps)
-unlocked-ready ps None t m = tt
-unlocked-ready ps (Some owner) t m = search (rules, guarded-if)
-
-begun-ready : (ps : List Pending) (o : Option Frame) (u : ℕ) → IfSome (begun o u) (IsReady ps)
-begun-ready ps None u = tt
-begun-ready ps (Some g) u = search (rules, guarded-if)
-
-joined-ready : (ps : List Pending) (o : Option Frame) (empty : Bool) (u : ℕ) → IfSome (joined o empty u) (IsReady ps)
-joined-ready ps None empty u = tt
-joined-ready ps (Some g) empty u = search (rules, guarded-if)
-
-ruleset ready = (guarded-if, bind-if, either-if, locked-ready, unlocked-ready, begun-ready, joined-ready)
+ruleset ready = (guarded-if, bind-if, either-if, locked-if, unlocked-if, begun-if, joined-if)
 
 -- the cell that the instruction loads, where it loads one, is one of the cells
 abbrev pub LoadsWithin : State → Frame → Instr → Type 0
 LoadsWithin s f (Load l target) = IfSome (cell_of (length s.memory) f.locals target) (λ c. c < length s.memory)
 LoadsWithin s f _ = Unit {0}
 
-module _ (m : Model) (bound : ℕ) (s : State) where
+module _ (m : Model) (bound : Bounding) (s : State) where
   -- what the thread does with these pending, and what it does where they have reached memory
   abbrev pub DoesAlike : List Pending → Frame → Instr → Type 0
   DoesAlike ps f i = Matched (SettlesTo s ps) (act (Buffered m bound) (loaded s ps) 0 f i) (act Sc (settled s ps) 0 f i)
@@ -117,10 +102,10 @@ module _ (m : Model) (bound : ℕ) (s : State) where
   store-alike : (ps : List Pending) (f : Frame) (target : Target) (e : Pure) → DoesAlike ps f (Store target e)
   unfolding act
   store-alike ps f target e = subst
-      (λ n. Matched (SettlesTo s ps) (cell_of (length s.memory) f.locals target >>= (λ c. stored (pends m bound ps c) c (value_of e f.locals))) (cell_of n f.locals target >>= (λ c. Some (Puts c (value_of e f.locals)))))
+      (λ n. Matched (SettlesTo s ps) (cell_of (length s.memory) f.locals target >>= (λ c. stored (pends m (bound_of bound 0) ps c) c (value_of e f.locals))) (cell_of n f.locals target >>= (λ c. Some (Puts c (value_of e f.locals)))))
       (sym (length-laid s.memory ps))
-      (matched-bind (SettlesTo s ps) (cell_of (length s.memory) f.locals target) (λ c. stored (pends m bound ps c) c (value_of e f.locals)) (λ c. Some (Puts c (value_of e f.locals))) (λ c d.
-      pends-alike ps (nat_lt (length (part m ps c)) bound) c (value_of e f.locals)))
+      (matched-bind (SettlesTo s ps) (cell_of (length s.memory) f.locals target) (λ c. stored (pends m (bound_of bound 0) ps c) c (value_of e f.locals)) (λ c. Some (Puts c (value_of e f.locals))) (λ c d.
+      pends-alike ps (nat_lt (length (part m ps c)) (bound_of bound 0)) c (value_of e f.locals)))
 
   pub act-alike : (ps : List Pending) (f : Frame) (i : Instr) → LoadsWithin s f i → DoesAlike ps f i
   unfolding act

@@ -12,8 +12,8 @@ use Rattle.mm_sched.specs.declared.write.Held.{Held}
 use Rattle.mm_sched.specs.ScheduleText.{newline, entries_in}
 use Rattle.mm_sched.specs.Spelling.{is_same_step, in_front, runs, last_part, run_lines, spelled_lines, line_text}
 use Rattle.mm_sched.specs.ScheduleText.{times}
-use Rattle.mm_sched.specs.Writing.{lines_text}
-use Rattle.mm_sched.specs.Writing.{held, held_line, filled, grown, written_some, held_some, written, held_behind}
+use Rattle.mm_sched.specs.reading.Writing.{lines_text}
+use Rattle.mm_sched.specs.reading.Writing.{held, held_line, filled, grown, written_some, held_some, written, held_behind}
 use Rattle.mm_sched.proofs.Numerals.{one_above}
 
 -- one more line of many

@@ -5,7 +5,7 @@ use Rattle.std.specs.Option.{option_map}
 use Rattle.std.proofs.lemmas.Bool.Decides.{eqb_tells}
 use Rattle.std.proofs.lemmas.List.Elements.{All-nil, All-cons, All-head, All-tail}
 use Rattle.mm_sched.specs.ScheduleText.{newline, whole, IsUnfinished}
-use Rattle.mm_sched.specs.Reading.{Cut, longer, cut, Parts, first_longer, on_first, new_line, parts}
+use Rattle.mm_sched.specs.reading.Reading.{Cut, longer, cut, Parts, first_longer, on_first, new_line, parts}
 use Rattle.mm_sched.proofs.Cutting.{IsFree, is_cut, other_byte}
 
 abbrev pub parts_in : List (List ℕ) → List ℕ → Parts

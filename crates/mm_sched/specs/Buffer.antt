@@ -2,10 +2,11 @@
 -- for a cell, and which of them a flush takes. After x86-TSO (Owens, Sarkar and Sewell, "A better x86 memory model:
 -- x86-TSO"), and for partial store order the same with a list for each cell (SPARC Architecture Manual, version 8, PSO).
 use Rattle.std.specs.Prelude.{ℕ, ℤ, Bool, true, false, if◌then◌else◌, ◌==◌, nat_lt, List, [], ◌∷◌, length, filter, find, reverse, slice_get, slice_index_or, Option, None, option_map, unwrap_or}
+use Rattle.mm_goto.specs.Bounds.{bound_of}
 use Rattle.mm_goto.specs.declared.model.Model.{Model}
 use Rattle.mm_goto.specs.declared.model.Model.TheVariants.{Tso, Pso}
 use Rattle.mm_sched.specs.declared.entry.Entry.{Entry}
-use Rattle.mm_sched.specs.declared.entry.Entry.TheVariants.{Flush, FlushCell}
+use Rattle.mm_sched.specs.declared.entry.Entry.TheVariants.{Step, In, Flush, FlushCell}
 use Rattle.mm_sched.specs.declared.entry.Rules.{Rules}
 use Rattle.mm_sched.specs.declared.entry.Rules.TheVariants.{Sc, Buffered, Partial}
 use Rattle.mm_sched.specs.declared.entry.How.{How}
@@ -40,17 +41,13 @@ newest ps c = option_map (λ q. q.1) (find (is_to c) (reverse ps))
 abbrev pub seen : State → ℕ → ℕ → ℤ
 seen s t c = unwrap_or (newest (pending_of s t) c) (at_cell s c)
 
--- how many stores of thread t may be pending, in all or for each cell: the bound is the same for every thread
-abbrev pub bound_of : ℕ → ℕ → ℕ
-bound_of bound t = bound
-
 -- the store of thread t at place k is one of the set
 abbrev pub is_in : List (List Bool) → ℕ → ℕ → Bool
 is_in set t k = slice_index_or (slice_index_or set t []) k false
 
--- there is room for one more
+-- there is room for one more, where so many may be pending
 abbrev pub pends : Model → ℕ → List Pending → ℕ → How
-pends m bound ps c = if nat_lt (length (part m ps c)) bound then Delayed else NotEnabled
+pends m room ps c = if nat_lt (length (part m ps c)) room then Delayed else NotEnabled
 
 -- none that counts is pending
 abbrev pub writes : Model → List Pending → ℕ → How
@@ -64,9 +61,12 @@ store_of (Partial m bound set) t k ps c = if is_in set t k then pends m (bound_o
 
 -- the pending store that the entry moves to memory under the model: the oldest under TSO, the oldest to the cell under PSO
 abbrev pub flush_under : Model → Entry → List Pending → Option Pending
+flush_under m (Step t) ps = None
+flush_under m (In t v) ps = None
 flush_under Tso (Flush t) ps = slice_get ps 0
+flush_under Pso (Flush t) ps = None
+flush_under Tso (FlushCell t c) ps = None
 flush_under Pso (FlushCell t c) ps = find (is_to c) ps
-flush_under _ _ ps = None
 
 -- the pending store that the entry moves to memory: none under sequential consistency, where none is ever pending
 abbrev pub flush_of : Rules → Entry → List Pending → Option Pending

@@ -131,8 +131,24 @@ is_int (negsuc n) = nat_lt n (2 ^ 31)
 
 -- what a thread does by an Input that takes the value
 abbrev pub input : Instr → ℤ → Option Act
+input (Set l e) v = None
+input (Load l target) v = None
+input (Store target e) v = None
 input (Input l) v = guarded (is_int v) (Some (Assigns l v))
-input _ v = None
+input (Jump k) v = None
+input (Branch e k) v = None
+input (Assert e n) v = None
+input (Assume e) v = None
+input Fence v = None
+input (Lock m) v = None
+input (Unlock m) v = None
+input (Add l target e) v = None
+input (Cas l target e g) v = None
+input (Start u) v = None
+input (Join u) v = None
+input AtomBegin v = None
+input AtomEnd v = None
+input End v = None
 
 -- what thread t does by its next instruction, where it may step
 abbrev pub does : Listing → State → ℕ → (Frame → Instr → Option Act) → Option Event
@@ -168,12 +184,21 @@ assigned f l v = record f { place = f.place + 1; locals = slice_set f.locals l v
 -- the thread's own frame
 abbrev pub framed : Frame → Act → Frame
 framed f (Goes k) = record f { place = k }
-framed f Ends = record f { ended = true }
 framed f (Assigns l v) = assigned f l v
+framed f (Fails n) = on f
+framed f Ends = record f { ended = true }
 framed f (Loads l c v) = assigned f l v
+framed f (Pushes c v) = on f
+framed f (Puts c v) = on f
+framed f Fences = on f
+framed f (Takes m) = on f
+framed f (Gives m) = on f
 framed f (Updates l v c w) = assigned f l v
 framed f (Misses l c) = assigned f l (pos 0)
-framed f _ = on f
+framed f (Starts u) = on f
+framed f (Joins u) = on f
+framed f Enters = on f
+framed f Leaves = on f
 
 -- the frame of thread t is now f
 abbrev pub moved : State → ℕ → Frame → State
@@ -197,16 +222,22 @@ started s u = moved s u (record (frame_of s u) { started = true })
 
 -- all else that the act of thread t changes
 abbrev pub done : State → ℕ → Act → State
+done s t (Goes k) = s
+done s t (Assigns l v) = s
 done s t (Fails n) = record s { verdict = Some n }
+done s t Ends = s
+done s t (Loads l c v) = s
 done s t (Pushes c v) = pushed s t c v
 done s t (Puts c v) = written s c v
-done s t (Updates l v c w) = written s c w
+done s t Fences = s
 done s t (Takes m) = owned s m (Some t)
 done s t (Gives m) = owned s m None
+done s t (Updates l v c w) = written s c w
+done s t (Misses l c) = s
 done s t (Starts u) = started s u
+done s t (Joins u) = s
 done s t Enters = record s { section = Some t }
 done s t Leaves = record s { section = None }
-done s t _ = s
 
 -- the state after thread t did this
 unfoldable pub acted : State → ℕ → Act → State

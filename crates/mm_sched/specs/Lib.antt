@@ -1,8 +1,9 @@
 pub mod Buffer
 pub mod Event
+pub mod Failing
 pub mod Guarded
-pub mod Possible
-pub mod Reading
+pub mod Invariant
+pub mod reading
 pub mod Running
 pub mod Runs
 pub mod ScheduleText
@@ -10,4 +11,4 @@ pub mod Sections
 pub mod Spelling
 pub mod State
 pub mod Tiny
-pub mod Writing
+pub mod Turn

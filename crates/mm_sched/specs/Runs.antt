@@ -1,13 +1,12 @@
 -- Runs of a machine.
-use Rattle.std.specs.Prelude.{◌≡◌, ℕ, ◌<◌, List, [], ◌∷◌, reverse, slice_get, Option, Some, None}
+use Rattle.std.specs.Prelude.{◌≡◌, ℕ, ℤ, List, [], ◌∷◌, length, reverse, slice_get, take, Option, Some, None}
 use Rattle.std.specs.List.{filter_map}
-use Rattle.mm_goto.specs.declared.program.Thread.{Thread}
 use Rattle.mm_sched.specs.declared.entry.Entry.{Entry}
-use Rattle.mm_sched.specs.declared.entry.Entry.TheVariants.{Step}
+use Rattle.mm_sched.specs.declared.entry.Entry.TheVariants.{Step, In, Flush, FlushCell}
 use Rattle.mm_sched.specs.declared.entry.Rules.{Rules}
 use Rattle.mm_sched.specs.Guarded.{◌>>=◌}
 use Rattle.mm_goto.specs.Listing.{Listing}
-use Rattle.mm_sched.specs.State.{State, initial, at_local}
+use Rattle.mm_sched.specs.State.{State, initial, frame_of}
 use Rattle.mm_sched.specs.Event.{next}
 
 -- the state after the entries, where each is enabled in its turn
@@ -30,16 +29,26 @@ Reaches r p n = (es : List Entry) × Fails r p n es
 -- the thread of a `step` entry
 abbrev pub step_of : Entry → Option ℕ
 step_of (Step t) = Some t
-step_of _ = None
+step_of (In t v) = None
+step_of (Flush t) = None
+step_of (FlushCell t c) = None
 
 -- the thread of the last `step` entry: where the schedule fails, the thread whose assertion failed
 abbrev pub failing_thread : List Entry → Option ℕ
 failing_thread es = slice_get (filter_map step_of (reverse es)) 0
 
--- a schedule of p under r and one of q under o fail alike: with the same number and in the same thread, whose locals in p
--- have the same values at the end of both
+-- the locals of thread t
+abbrev pub locals_of : State → ℕ → List ℤ
+locals_of s t = (frame_of s t).locals
+
+-- the one list is the front of the other
+abbrev pub IsFront : List ℤ → List ℤ → Type 0
+IsFront xs ys = take (length xs) ys ≡ xs
+
+-- a schedule of p under r and one of q under o fail alike: with the same number and in the same thread, whose locals at the
+-- end in p are the front of its locals at the end in q
 pub record FailAlike (r o : Rules) (p q : Listing) (n : ℕ) (es fs : List Entry) : Type 0 where
   pub one : Fails r p n es
   pub other : Fails o q n fs
   pub thread : failing_thread es ≡ failing_thread fs
-  pub locals : (t l : ℕ) (f : Thread) → failing_thread es ≡ Some t → slice_get p.threads t ≡ Some f → l < f.locals → at_local one.last t l ≡ at_local other.last t l
+  pub locals : (t : ℕ) → failing_thread es ≡ Some t → IsFront (locals_of one.last t) (locals_of other.last t)

@@ -102,9 +102,17 @@ IsUnfinished w = All (λ b. b ≢ newline) w
 -- behind the whole lines ws, what is left of a text does not go on with a schedule: a whole line does not fit after them,
 -- or the line has no newline, or nothing is left and the last line has not come
 pub data Stops (ws : List (List ℕ)) (left : List ℕ) : Type 0 where
-  bad : (w behind : List ℕ) → IsUnfinished w → left ≡ w ++ newline ∷ behind → ¬ (Begin (ws ++ w ∷ [])) → Stops ws left
-  unfinished : IsUnfinished left → left ≢ [] → Stops ws left
-  missing : left ≡ [] → ((lines : List Line) → ¬ (AreLines ws lines)) → Stops ws left
+  bad : (w behind : List ℕ)
+      → IsUnfinished w
+      → left ≡ w ++ newline ∷ behind
+      → ¬ (Begin (ws ++ w ∷ []))
+      → Stops ws left
+  unfinished : IsUnfinished left
+      → left ≢ []
+      → Stops ws left
+  missing : left ≡ []
+      → ((lines : List Line) → ¬ (AreLines ws lines))
+      → Stops ws left
 
 -- the first line that does not fit has the number k, from 1
 pub record IsBadLine (text : List ℕ) (k : ℕ) : Type 0 where

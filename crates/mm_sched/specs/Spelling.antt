@@ -11,7 +11,12 @@ use Rattle.mm_sched.specs.ScheduleText.{times, step_text, steps_text, in_text, f
 
 abbrev pub is_same_step : Entry → Entry → Bool
 is_same_step (Step t) (Step u) = t == u
-is_same_step _ _ = false
+is_same_step (Step t) (In u v) = false
+is_same_step (Step t) (Flush u) = false
+is_same_step (Step t) (FlushCell u c) = false
+is_same_step (In t v) f = false
+is_same_step (Flush t) f = false
+is_same_step (FlushCell t c) f = false
 
 -- an entry in front of runs: it joins the first one, where both are steps of one thread
 abbrev pub in_front : Entry → List Line → List Line

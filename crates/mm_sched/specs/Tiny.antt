@@ -1,11 +1,12 @@
 -- Small programs, and what is seen of a machine that runs them: examples of the definitions.
 use Rattle.std.specs.Prelude.{ℕ, ℤ, pos, Bool, true, false, List, [], ◌∷◌, Option, None, is_some, option_map}
+use Rattle.mm_goto.specs.Bounds.{uniform}
 use Rattle.mm_goto.specs.declared.model.Model.TheVariants.{Tso, Pso}
 use Rattle.mm_goto.specs.declared.program.Cell.{Cell}
 use Rattle.mm_goto.specs.declared.program.Thread.{Thread}
 use Rattle.mm_goto.specs.declared.program.Target.TheVariants as target
 use Rattle.mm_goto.specs.declared.program.Instr.{Instr}
-use Rattle.mm_goto.specs.declared.program.Instr.TheVariants.{Load, Store, Assert, Cas, Start, End}
+use Rattle.mm_goto.specs.declared.program.Instr.TheVariants.{Set, Load, Store, Assert, Cas, Start, End}
 use Rattle.mm_sched.specs.declared.entry.Entry.{Entry}
 use Rattle.mm_sched.specs.declared.entry.Rules.{Rules}
 use Rattle.mm_sched.specs.declared.entry.Rules.TheVariants.{Buffered}
@@ -63,6 +64,10 @@ result_of op x y = value_of (combined op (constant x) (constant y)) []
 abbrev pub of_two_mutexes : List Instr → Listing
 of_two_mutexes code = record (alone code) { mutexes = [] ∷ [] ∷ [] }
 
+-- main has so many locals, of which the first becomes z, and assertion 3 fails
+abbrev pub failing : ℕ → ℤ → Listing
+failing n z = record (alone []) { threads = record { locals = n; code = Set 0 (constant z) ∷ fail 3 ∷ End ∷ []; places = [] } ∷ [] }
+
 -- two cells that begin so, and main reads the second
 abbrev pub from_values : ℤ → ℤ → Listing
 from_values x y = record (alone (get 1 1 ∷ End ∷ [])) { cells = cell_from x ∷ cell_from y ∷ [] }
@@ -78,10 +83,10 @@ message_passing = beside (Start 1 ∷ put 0 5 ∷ put 1 1 ∷ End ∷ []) (get 0
 -- ---- machines
 
 abbrev pub tso : ℕ → Rules
-tso bound = Buffered Tso bound
+tso n = Buffered Tso (uniform n)
 
 abbrev pub pso : ℕ → Rules
-pso bound = Buffered Pso bound
+pso n = Buffered Pso (uniform n)
 
 -- of main's stores the one at its first place
 abbrev pub first_alone : List (List Bool)

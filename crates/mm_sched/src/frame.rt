@@ -3,7 +3,7 @@
 ghost use Rattle.std.specs.Prelude.{◌≡◌, ◌+◌, ◌^◌, ◌<◌, ℕ, length, true, IfOk};
 ghost use Rattle.mm_sched.specs.State.{at_start};
 ghost use Rattle.mm_sched.specs.Event.{on, assigned, framed};
-ghost use Rattle.mm_sched.specs.Possible.{IsLocalWithin};
+ghost use Rattle.mm_sched.specs.Invariant.{IsLocalWithin};
 
 use crate::entry::Act;
 use mm_goto::{NoMemory, Thread};
@@ -96,12 +96,21 @@ impl Frame {
     {
         match act {
             Act::Goes(k) => self.place = k,
-            Act::Ends => self.ended = true,
             Act::Assigns(l, v) => self.assigned(l, v),
+            Act::Fails(_) => self.on(),
+            Act::Ends => self.ended = true,
             Act::Loads(l, _, v) => self.assigned(l, v),
+            Act::Pushes(_, _) => self.on(),
+            Act::Puts(_, _) => self.on(),
+            Act::Fences => self.on(),
+            Act::Takes(_) => self.on(),
+            Act::Gives(_) => self.on(),
             Act::Updates(l, v, _, _) => self.assigned(l, v),
             Act::Misses(l, _) => self.assigned(l, 0),
-            _ => self.on(),
+            Act::Starts(_) => self.on(),
+            Act::Joins(_) => self.on(),
+            Act::Enters => self.on(),
+            Act::Leaves => self.on(),
         }
     }
 }

@@ -6,8 +6,8 @@ pub mod alone;
 mod count;
 mod entry;
 mod frame;
+mod interpreter;
 pub mod laws;
-mod machine;
 mod read;
 mod rules;
 mod schedule;
@@ -16,7 +16,7 @@ mod waiting;
 mod write;
 
 pub use entry::{Act, Entry, Event, How, Rules, Stuck};
-pub use machine::Machine;
+pub use interpreter::Interpreter;
 pub use read::read_schedule;
 pub use schedule::{Line, SchedFault, Schedule};
 pub use write::write_schedule;

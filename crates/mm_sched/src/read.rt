@@ -3,7 +3,7 @@ ghost use Rattle.mm_sched.specs.declared.read.Stage.TheVariants.{First};
 ghost use Rattle.std.specs.List.{list_all};
 ghost use Rattle.std.specs.Char.{is_ascii_digit};
 ghost use Rattle.mm_sched.specs.ScheduleText.{IsSchedule, IsFault};
-ghost use Rattle.mm_sched.specs.Reading.{Cut, cut, number_of, negative, positive, int_of, step_of, steps_of, in_of, flush_all_of, flush_cell_of, flush_of, form_of, line_of, counted, next, lines_of, is_ended, read_text, IsRead};
+ghost use Rattle.mm_sched.specs.reading.Reading.{Cut, cut, number_of, negative, positive, int_of, step_of, steps_of, in_of, flush_all_of, flush_cell_of, flush_of, form_of, line_of, counted, next, lines_of, is_ended, read_text, IsRead};
 
 use super::entry::Entry;
 use super::schedule::{Line, MAX_ENTRIES, SchedFault, Schedule};
@@ -150,7 +150,7 @@ fn form_of(word: &str, text: &str) -> Option<Line>
 }
 
 // The line that a text without its newline is.
-#[tactic(auto, unfolding(crate::specs::Reading::line_of))]
+#[tactic(auto, unfolding(crate::specs::reading::Reading::line_of))]
 fn line_of(text: &str) -> Option<Line>
     ensures { result ≡ line_of text.now }
 {

@@ -2,7 +2,7 @@
 
 ghost use Rattle.std.specs.Prelude.{◌≡◌, ◌^◌, ◌<◌, ◌≤◌, length, find, position, option_map};
 ghost use Rattle.mm_sched.specs.Buffer.{is_to, newest, part, is_in, pends, writes, store_of, flush_under, flush_of};
-ghost use Rattle.mm_sched.specs.Possible.{room_under, room_of};
+ghost use Rattle.mm_sched.specs.Invariant.{room_under, room_of};
 
 use crate::entry::{Entry, How, Rules};
 use mm_goto::{Bound, List, Model};
@@ -41,10 +41,10 @@ fn is_in(set: &List<List<bool>>, t: u32, k: u32) -> bool
     }
 }
 
-fn pends(model: Model, bound: u32, pending: &[(u32, i32)], c: u32) -> How
-    ensures { result ≡ pends model bound pending.now c }
+fn pends(model: Model, room: u32, pending: &[(u32, i32)], c: u32) -> How
+    ensures { result ≡ pends model room pending.now c }
 {
-    if part_len(model, pending, c) < bound as usize {
+    if part_len(model, pending, c) < room as usize {
         How::Delayed
     } else {
         How::NotEnabled
@@ -100,12 +100,15 @@ fn flush_under(model: Model, entry: Entry, pending: &[(u32, i32)]) -> Option<(u3
     ensures { result ≡ flush_under model entry pending.now }
 {
     match (model, entry) {
+        (_, Entry::Step(_)) => None,
+        (_, Entry::In(_, _)) => None,
         (Model::Tso, Entry::Flush(_)) => pending.first().copied(),
+        (Model::Pso, Entry::Flush(_)) => None,
+        (Model::Tso, Entry::FlushCell(_, _)) => None,
         (Model::Pso, Entry::FlushCell(_, c)) => match oldest(pending, c) {
             Some(v) => Some((c, v)),
             None => None,
         },
-        _ => None,
     }
 }
 
@@ -120,7 +123,7 @@ pub fn flush_of(rules: &Rules, entry: Entry, pending: &[(u32, i32)]) -> Option<(
     }
 }
 
-/// How many stores of a thread may be pending: the bound, for each cell under PSO.
+/// How many stores of any thread may be pending: the bound, for each cell under PSO.
 fn room_under(model: Model, bound: Bound, cells: usize) -> usize
     requires { cells ≤ 65536 }
     ensures room { result ≡ room_under model bound cells }
@@ -133,7 +136,7 @@ fn room_under(model: Model, bound: Bound, cells: usize) -> usize
     }
 }
 
-/// How many stores of a thread may be pending in a program of so many cells.
+/// How many stores of any thread may be pending in a program of so many cells.
 pub fn room_of(rules: &Rules, cells: usize) -> usize
     requires { cells ≤ 65536 }
     ensures room { result ≡ room_of rules.now cells }

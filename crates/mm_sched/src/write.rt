@@ -2,8 +2,8 @@ ghost use Rattle.std.specs.Prelude.{◌≡◌, ◌+◌, ◌<◌, ◌^◌, ◌++�
 ghost use Rattle.mm_sched.specs.ScheduleText.{newline, entries_in, entries_of};
 ghost use Rattle.mm_sched.specs.Spelling.{last_part, text_of, spelled_lines, spell};
 ghost use Rattle.mm_sched.specs.ScheduleText.{times};
-ghost use Rattle.mm_sched.specs.Writing.{lines_text};
-ghost use Rattle.mm_sched.specs.Writing.{held_line, closed, joined, filled, grown, written_some, held_some, written, held_behind};
+ghost use Rattle.mm_sched.specs.reading.Writing.{lines_text};
+ghost use Rattle.mm_sched.specs.reading.Writing.{held_line, closed, joined, filled, grown, written_some, held_some, written, held_behind};
 
 use super::entry::Entry;
 use super::schedule::{FULL, Line, Schedule};

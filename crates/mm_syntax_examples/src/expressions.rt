@@ -1,6 +1,6 @@
-use mm_goto::{At, Binary};
+use mm_goto::Binary;
 use mm_lexer::{LexFault, lex};
-use mm_parse_expr::{ParseFault, parse_expr, parse_unary};
+use mm_parse_expr::{ParseFault, parse_expr};
 use mm_tree::{Expr, Node};
 
 #[derive(Debug, Drop)]
@@ -21,22 +21,6 @@ impl From<ParseFault> for Fail {
     }
 }
 
-fn is_bad_at(read: Result<(Expr, usize), ParseFault>, line: u32, column: u32) -> bool {
-    match read {
-        Err(ParseFault::BadSyntax(at)) => at == At { line, column },
-        _ => false,
-    }
-}
-
-fn is_outside_at(read: &Result<(Expr, usize), ParseFault>, word: &str, column: u32) -> bool {
-    match read {
-        Err(ParseFault::OutsideProfile(found, at)) => {
-            found.text() == word && at.column == column
-        }
-        _ => false,
-    }
-}
-
 #[test]
 fn reads_the_longest_run(rt: HostRuntime) -> Result<(), Fail> {
     let alloc = rt.alloc();
@@ -50,9 +34,6 @@ fn reads_the_longest_run(rt: HostRuntime) -> Result<(), Fail> {
     let (sum, end) = parse_expr(alloc, text, &tokens, 0)?;
     assert!(rt; matches!(&sum.node, Node::Bin(Binary::Add, _, _)));
     assert_eq!(rt; end, 4);
-    let (pointee, end) = parse_unary(alloc, text, &tokens, 0)?;
-    assert!(rt; matches!(&pointee.node, Node::Deref(_)));
-    assert_eq!(rt; end, 2);
     Ok(())
 }
 
@@ -85,21 +66,5 @@ fn joins_to_the_left_by_level(rt: HostRuntime) -> Result<(), Fail> {
         _ => false,
     };
     assert!(rt; is_choice);
-    Ok(())
-}
-
-#[test]
-fn refuses_behind_the_run(rt: HostRuntime) -> Result<(), Fail> {
-    let alloc = rt.alloc();
-    let text = "1 + ;";
-    let tokens = lex(alloc, text)?;
-    assert!(rt; is_bad_at(parse_expr(alloc, text, &tokens, 0), 1, 5));
-    let text = "a[1 /* two\n */ ";
-    let tokens = lex(alloc, text)?;
-    assert!(rt; is_bad_at(parse_expr(alloc, text, &tokens, 0), 2, 5));
-    let text = "1 + sizeof";
-    let tokens = lex(alloc, text)?;
-    let is_outside = is_outside_at(&parse_expr(alloc, text, &tokens, 0), "sizeof", 5);
-    assert!(rt; is_outside);
     Ok(())
 }

@@ -7,5 +7,3 @@ mod expressions;
 mod programs;
 #[cfg(test)]
 mod tokens;
-#[cfg(test)]
-mod trees;

@@ -129,6 +129,7 @@ fn reads_every_form(rt: HostRuntime) -> Result<(), Fail> {
     assert!(rt; tree.same(&other));
     assert!(rt; tree.same(&spelled));
     assert!(rt; spelled.same(&tree));
+    assert!(rt; tree.copy(alloc)?.same(&tree));
     Ok(())
 }
 
@@ -146,88 +147,35 @@ fn tells_trees_apart(rt: HostRuntime) -> Result<(), Fail> {
     Ok(())
 }
 
-/// Texts that are no programs, each with the line and the column of its fault, and with the word or mark there that the
-/// profile has not, if it is one.
-const REFUSALS: [(&str, u32, u32, &str); 52] = [
-    ("static int f(void) ];", 1, 20, ""),
-    ("static int f(void);", 1, 19, ""),
-    ("extern int x ];", 1, 14, ""),
-    ("int x, f ](", 1, 10, ""),
-    ("int x, f (", 1, 10, ""),
-    ("int *a ][", 1, 8, ""),
-    ("int *a [3];", 1, 8, ""),
-    ("int main() { x = (f ](; }", 1, 21, ""),
-    ("int main() { x = (f (1)); }", 1, 21, ""),
-    ("int main() { f() ]+ 1; }", 1, 18, ""),
-    ("int main() { f() + 1; }", 1, 18, ""),
-    ("int main() { x = f() + 1; }", 1, 22, ""),
-    ("int main() { *p + 1 = 2; }", 1, 17, ""),
-    ("int x x float", 1, 7, ""),
-    ("int x float", 1, 7, "float"),
-    ("float x;", 1, 1, "float"),
-    ("int main() { else x = 1; }", 1, 14, ""),
-    ("int main() { if x == 1; }", 1, 17, ""),
-    ("int main() { x = 1 }", 1, 20, ""),
-    ("int main() { x = 1;", 1, 20, ""),
-    ("int main() { x = 1; /* a */", 1, 28, ""),
-    ("int main() { // a\n", 2, 1, ""),
-    ("int main() { x.y = 1; }", 1, 15, "."),
-    ("int main() { x->y = 1; }", 1, 15, "->"),
-    ("int main() { goto 1; }", 1, 19, ""),
-    ("int main() { while (1 x = 2; }", 1, 23, ""),
-    ("int main() { do x = 1; while (1) }", 1, 34, ""),
-    ("int main() { do x = 1; until (1); }", 1, 24, ""),
-    ("int main() { for (;;) }", 1, 23, ""),
-    ("int main() { for (;; x) ; }", 1, 23, ""),
-    ("int main() { int x = 1, ; }", 1, 25, ""),
-    ("int main() { if (1) int x; }", 1, 21, ""),
-    ("int a[3] = { 1, x };", 1, 17, ""),
-    ("int a[3] = { };", 1, 14, ""),
-    ("int a[n];", 1, 7, ""),
-    ("pthread_mutex_t m = 1;", 1, 21, ""),
-    ("int f(int x, void) { }", 1, 14, ""),
-    ("void *f(int x) { }", 1, 9, ""),
-    ("static pthread_t t = 1;", 1, 20, ""),
-    ("volatile void f() { }", 1, 10, ""),
-    ("volatile int f() { }", 1, 15, ""),
-    ("int main() { __CPROVER_assert(x, 1); }", 1, 34, ""),
-    ("int main() { pthread_create(&t, 1, f, NULL); }", 1, 33, ""),
-    ("int main() { pthread_join(t, NULL) }", 1, 36, ""),
-    ("int main() { return 1 }", 1, 23, ""),
-    ("int main() { ++1; }", 1, 16, ""),
-    ("int main() { a: }", 1, 17, ""),
-    ("int main() { x = sizeof(x); }", 1, 18, "sizeof"),
-    ("int main() { __sync_fetch_and_add(&x); }", 1, 37, ""),
-    ("int", 1, 4, ""),
-    ("int main() {} ]", 1, 15, ""),
-    (";", 1, 1, ""),
+/// Outputs that are no programs, each with the column of its fault, and with the word or mark there that the profile has
+/// not, if it is one.
+const REFUSALS: [(&str, u32, &str); 5] = [
+    ("int *a [3];", 8, ""),
+    ("int main() { x = f() + 1; }", 22, ""),
+    ("int x float", 7, "float"),
+    ("int main() { x->y = 1; }", 15, "->"),
+    ("int main() { x = 1;", 20, ""),
 ];
 
-fn is_refused(alloc: Global, text: &str, place: At, word: &str, side: Side) -> bool {
-    match tree_of(alloc, text, side) {
-        Err(Fail::Parsed(ParseFault::BadSyntax(at))) => word.is_empty() && at == place,
+fn is_refused(read: Result<Tree, Fail>, column: u32, word: &str) -> bool {
+    match read {
+        Err(Fail::Parsed(ParseFault::BadSyntax(at))) => {
+            word.is_empty() && at == At { line: 1, column }
+        }
         Err(Fail::Parsed(ParseFault::OutsideProfile(found, at))) => {
-            found.text() == word && at == place
+            found.text() == word && at == At { line: 1, column }
         }
         _ => false,
     }
 }
 
 #[test]
-fn refuses_at_the_first_fault(rt: HostRuntime) -> Result<(), Fail> {
+fn an_output_is_refused_at_its_first_fault(rt: HostRuntime) {
     let alloc = rt.alloc();
-    for (text, line, column, word) in REFUSALS {
-        let place = At { line, column };
-        assert!(rt;
-            is_refused(alloc, text, place, word, Side::Source),
-            "{text}"
-        );
-        assert!(rt;
-            is_refused(alloc, text, place, word, Side::Output),
-            "{text}"
-        );
+    for (text, column, word) in REFUSALS {
+        let read = tree_of(alloc, text, Side::Output);
+        assert!(rt; is_refused(read, column, word), "{text}");
     }
-    Ok(())
 }
 
 fn is_too_deep_at(read: Result<Tree, Fail>, column: u32) -> bool {
@@ -237,61 +185,12 @@ fn is_too_deep_at(read: Result<Tree, Fail>, column: u32) -> bool {
     }
 }
 
-fn is_bad_at(read: Result<Tree, Fail>, column: u32) -> bool {
-    match read {
-        Err(Fail::Parsed(ParseFault::BadSyntax(at))) => at == At { line: 1, column },
-        _ => false,
-    }
-}
-
 #[test]
-fn counts_open_brackets(rt: HostRuntime) -> Result<(), Fail> {
+fn an_output_has_limits_of_its_own(rt: HostRuntime) -> Result<(), Fail> {
     let alloc = rt.alloc();
-    let open = repeated(alloc, "int main() {", "{", 199, "")?;
-    let text = repeated(alloc, open.as_str(), "}", 200, "")?;
-    assert!(rt; tree_of(alloc, text.as_str(), Side::Source).is_ok());
-    let text = repeated(alloc, "int main() {", "{", 200, "]")?;
-    assert!(rt; is_too_deep_at(tree_of(alloc, text.as_str(), Side::Source), 212));
-    let text = repeated(alloc, "int x = (", "{", 200, "")?;
-    assert!(rt; is_too_deep_at(tree_of(alloc, text.as_str(), Side::Source), 209));
-    Ok(())
-}
-
-#[test]
-fn counts_tokens_since_a_mark(rt: HostRuntime) -> Result<(), Fail> {
-    let alloc = rt.alloc();
-    let text = repeated(alloc, "int main() { x = 1", " + 1", 98, "; }")?;
-    assert!(rt; tree_of(alloc, text.as_str(), Side::Source).is_ok());
     let text = repeated(alloc, "int main() { x = 1", " + 1", 99, "; }")?;
-    assert!(rt; is_too_deep_at(tree_of(alloc, text.as_str(), Side::Source), 414));
     assert!(rt; tree_of(alloc, text.as_str(), Side::Output).is_ok());
-    let text = repeated(alloc, "int main() { x = -1", " + 1", 98, "; }")?;
-    assert!(rt; tree_of(alloc, text.as_str(), Side::Source).is_ok());
-    Ok(())
-}
-
-#[test]
-fn counts_words_within_brackets(rt: HostRuntime) -> Result<(), Fail> {
-    let alloc = rt.alloc();
-    let text = repeated(alloc, "int main() { ", "for(;;) ", 199, "; }")?;
-    assert!(rt; tree_of(alloc, text.as_str(), Side::Source).is_ok());
-    let text = repeated(alloc, "int main() { ", "for(;;) ", 201, "; }")?;
-    assert!(rt; is_too_deep_at(tree_of(alloc, text.as_str(), Side::Source), 1614));
-    let text = repeated(alloc, "int main() { ", "if(1);else ", 199, "; }")?;
-    assert!(rt; tree_of(alloc, text.as_str(), Side::Source).is_ok());
     let text = repeated(alloc, "int main() { ", "if(1);else ", 201, "; }")?;
     assert!(rt; is_too_deep_at(tree_of(alloc, text.as_str(), Side::Output), 2220));
-    Ok(())
-}
-
-#[test]
-fn reads_long_lists(rt: HostRuntime) -> Result<(), Fail> {
-    let alloc = rt.alloc();
-    let text = repeated(alloc, "int main() { ", ";", 20_000, "}")?;
-    assert!(rt; tree_of(alloc, text.as_str(), Side::Source).is_ok());
-    let text = repeated(alloc, "int a[2] = { 0", ", 1", 20_000, " };")?;
-    assert!(rt; tree_of(alloc, text.as_str(), Side::Source).is_ok());
-    let text = repeated(alloc, "", "int x; ", 20_000, "]")?;
-    assert!(rt; is_bad_at(tree_of(alloc, text.as_str(), Side::Source), 140_001));
     Ok(())
 }

@@ -1,9 +1,8 @@
-//! Tokens of whole texts, and the first place at which none stands.
+//! Tokens of whole texts.
 ghost use Rattle.std.specs.Prelude.{◌≤◌, length, IfOk};
 
 use mm_goto::At;
 use mm_lexer::{LexFault, Token, TokenKind, lex};
-use std::test::Fail;
 
 const NAME: TokenKind = TokenKind::Name;
 
@@ -62,78 +61,6 @@ fn cuts_tokens(rt: HostRuntime) {
             Err(fault) => panic!(rt; "{text}: {fault:?}"),
         }
     }
-}
-
-fn is_bad(rt: &impl AllocGlobal, text: &str, line: u32, column: u32) -> bool {
-    lexed(rt, text) == Err(LexFault::BadToken(At { line, column }))
-}
-
-#[test]
-fn refuses_what_is_no_token(rt: HostRuntime) {
-    let table = [
-        ("int x; /* cut", 1, 8),
-        ("/*/", 1, 1),
-        ("/*\n\n*/ @", 3, 4),
-        ("α β @", 1, 5),
-        ("a\r\n\t@", 2, 2),
-        ("//\n//\n$", 3, 1),
-        ("a \\", 1, 3),
-        ("'a'", 1, 1),
-        ("`", 1, 1),
-        ("\0", 1, 1),
-        ("\u{b}", 1, 1),
-        ("\u{c}", 1, 1),
-        ("\u{a0}", 1, 1),
-        ("\u{b7}a", 1, 1),
-        ("\u{feff}a", 1, 1),
-        (" \"abc", 1, 2),
-        ("\"a\\n\"", 1, 1),
-        ("\"a\nb\"", 1, 1),
-        ("\"é\"", 1, 1),
-        ("x=0x;", 1, 3),
-        ("08", 1, 1),
-        ("1x", 1, 1),
-        ("0x1g", 1, 1),
-        ("0b1", 1, 1),
-        ("99999999999_", 1, 1),
-        ("#define A", 1, 1),
-        ("  # inc", 1, 3),
-        ("x #include <a>", 1, 3),
-        ("/**/#include <a>", 1, 5),
-        ("/*\n*/ #include <a>", 2, 4),
-        ("\r#include <a>", 1, 2),
-    ];
-    for (text, line, column) in table {
-        assert!(rt; is_bad(&rt, text, line, column), "{text}");
-    }
-}
-
-#[test]
-fn refuses_large_numbers(rt: HostRuntime) {
-    let table = [
-        ("int x = 2147483648;", 9),
-        ("020000000000", 1),
-        ("0x80000000", 1),
-        ("1 99999999999999999999999999", 3),
-    ];
-    for (text, column) in table {
-        let fault = LexFault::NumberTooLarge(At { line: 1, column });
-        assert!(rt; lexed(&rt, text) == Err(fault), "{text}");
-    }
-}
-
-#[test]
-fn texts_have_up_to_200_characters(rt: HostRuntime) -> Result<(), Fail> {
-    let mut text = String::from_str(rt.alloc(), "\"")?;
-    for _ in 0..200 {
-        text.push('a')?;
-    }
-    let mut longer = text.clone()?;
-    text.push('"')?;
-    longer.push_str("a\"")?;
-    assert!(rt; lexed(&rt, text.as_str()).is_ok());
-    assert!(rt; is_bad(&rt, longer.as_str(), 1, 1));
-    Ok(())
 }
 
 #[test]

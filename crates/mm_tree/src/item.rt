@@ -3,14 +3,14 @@ use crate::stmt::Stmt;
 use mm_goto::{At, Ident, List};
 
 /// A parameter of a function.
-#[derive(Debug, Drop)]
+#[derive(Drop)]
 pub struct Param {
     pub pointer: bool,
     pub name: Word,
 }
 
 /// A global variable that is declared.
-#[derive(Debug, Drop)]
+#[derive(Drop)]
 pub struct Global {
     /// The token of its name.
     pub at: At,
@@ -24,7 +24,7 @@ pub struct Global {
 }
 
 /// What a function gives back.
-#[derive(Clone, Copy, Debug, PartialEq, Eq)]
+#[derive(Clone, Copy, PartialEq, Eq)]
 pub enum Gives {
     Int,
     /// `int *`.
@@ -36,7 +36,7 @@ pub enum Gives {
 }
 
 /// An item of a program.
-#[derive(Debug, Drop)]
+#[derive(Drop)]
 pub enum Item {
     Globals(List<Global>),
     Mutexes(List<Word>),
@@ -56,7 +56,7 @@ pub enum Item {
 }
 
 /// A program's text, item by item.
-#[derive(Debug, Drop)]
+#[derive(Drop)]
 pub struct Tree {
     pub items: List<Item>,
 }

@@ -1,6 +1,6 @@
 ghost use Rattle.std.specs.Prelude.{◌≡◌, ◌↔◌, IsTrue, map};
 ghost use Rattle.std.specs.Option.{option_map};
-ghost use Rattle.mm_tree.specs.Places.{bare_word, bare_node, bare_expr, bare_left_node, bare_left, bare_value, bare_local, bare_stmt_node, bare_stmt, bare_param, bare_global, bare_item, without_places};
+ghost use Rattle.mm_tree.specs.Places.{bare_word, bare_expr, bare_left_node, bare_left, bare_value, bare_local, bare_stmt, bare_param, bare_global, bare_item, without_places};
 
 use crate::expr::{Expr, Node, Word};
 use crate::item::{Global, Item, Param, Tree};
@@ -62,6 +62,14 @@ impl<T: Same> Same for Option<T> {
     }
 }
 
+impl<T: Same> Same for Boxed<T> {
+    ghost bare = { T.bare };
+
+    fn same(&self, other: &Boxed<T>) -> bool {
+        self.get().same(other.get())
+    }
+}
+
 impl Same for Ident {
     ghost bare = { λ name. name };
 
@@ -81,19 +89,9 @@ impl Same for Word {
 impl Same for Expr {
     ghost bare = { bare_expr };
 
-    #[cycle(same_expr)]
-    fn same(&self, other: &Expr) -> bool {
-        self.node.same(&other.node)
-    }
-}
-
-impl Same for Node {
-    ghost bare = { bare_node };
-
-    #[cycle(same_expr)]
     #[tactic(auto, using(crate::proofs::Layers::expr_layers))]
-    fn same(&self, other: &Node) -> bool {
-        match (self, other) {
+    fn same(&self, other: &Expr) -> bool {
+        match (&self.node, &other.node) {
             (Node::Number(n), Node::Number(m)) => n == m,
             (Node::Null, Node::Null) => true,
             (Node::Name(x), Node::Name(y)) => x.same(y),
@@ -164,18 +162,9 @@ impl Same for Stmt {
     ghost bare = { bare_stmt };
 
     #[cycle(same_stmt)]
-    fn same(&self, other: &Stmt) -> bool {
-        self.node.same(&other.node)
-    }
-}
-
-impl Same for StmtNode {
-    ghost bare = { bare_stmt_node };
-
-    #[cycle(same_stmt)]
     #[tactic(auto, using(crate::proofs::Layers::stmt_layers))]
-    fn same(&self, other: &StmtNode) -> bool {
-        match (self, other) {
+    fn same(&self, other: &Stmt) -> bool {
+        match (&self.node, &other.node) {
             (StmtNode::Empty, StmtNode::Empty) => true,
             (StmtNode::Block(ss), StmtNode::Block(ts)) => same_block(ss, ts),
             (StmtNode::Declare(xs), StmtNode::Declare(ys)) => xs.same(ys),

@@ -1,5 +1,5 @@
 /// Which programs are read: those that a person writes, or those that weaving makes.
-#[derive(Clone, Copy, Debug, PartialEq, Eq)]
+#[derive(Clone, Copy, PartialEq, Eq)]
 pub enum Side {
     /// A source: no `goto`, no label and no atomic section.
     Source,

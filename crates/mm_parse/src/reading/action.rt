@@ -1,6 +1,6 @@
 //! Statements that hold no other.
 ghost use Rattle.mm_reading.specs.Gives.{Gives};
-ghost use Rattle.mm_parse.specs.StatementReading as spec;
+ghost use Rattle.mm_grammar.specs.reading.StatementReading as spec;
 
 use super::header::read_test;
 use super::marks::{
@@ -10,6 +10,7 @@ use super::value::read_value;
 use mm_parse_expr::{Symbol, Terminal, read_close, read_expr, read_name};
 use mm_reading::{Refused, keep, pair};
 use mm_tree::{StmtNode, Value, Word};
+use sqlite_items::Boxed;
 use std::alloc::Global;
 
 /// This, and then `;`.
@@ -24,7 +25,7 @@ pub fn read_ended<'a>(
 }
 
 /// `( ) ;`.
-#[tactic(auto, unfolding(crate::specs::StatementReading::bare))]
+#[tactic(auto, unfolding(mm_grammar::specs::reading::StatementReading::bare))]
 pub fn read_bare<'a>(
     node: StmtNode,
     ts: &'a [Terminal<'a>],
@@ -51,7 +52,7 @@ pub fn read_assert<'a>(
 }
 
 /// What stands behind `__CPROVER_assert`.
-#[tactic(auto, unfolding(crate::specs::StatementReading::named_assert, mm_reading::specs::Parsing::pure))]
+#[tactic(auto, unfolding(mm_grammar::specs::reading::StatementReading::named_assert, mm_reading::specs::Parsing::pure))]
 pub fn read_named_assert<'a>(
     alloc: Global,
     bound: usize,
@@ -62,10 +63,10 @@ pub fn read_named_assert<'a>(
 {
     let rest = read_open_mark(ts)?;
     let (test, rest) = read_expr(alloc, bound, depth, rest)?;
-    let (test, rest) = keep(test, read_comma(rest))?;
-    let ((test, text), rest) = pair(test, read_text(alloc, rest))?;
-    let (node, rest) = keep(StmtNode::Assert(test, Some(text)), read_close(rest))?;
-    read_ended(node, rest)
+    let rest = read_comma(rest)?;
+    let (text, rest) = read_text(alloc, rest)?;
+    let rest = read_close(rest)?;
+    read_ended(StmtNode::Assert(test, Some(text)), rest)
 }
 
 /// What stands behind `__CPROVER_assume`.
@@ -83,7 +84,7 @@ pub fn read_assume<'a>(
 }
 
 /// What stands behind `pthread_mutex_lock`.
-#[tactic(auto, unfolding(crate::specs::StatementReading::with_address, mm_reading::specs::Parsing::pure))]
+#[tactic(auto, unfolding(mm_grammar::specs::reading::StatementReading::with_address, mm_reading::specs::Parsing::pure))]
 pub fn read_lock<'a>(
     alloc: Global,
     ts: &'a [Terminal<'a>],
@@ -98,7 +99,7 @@ pub fn read_lock<'a>(
 }
 
 /// What stands behind `pthread_mutex_unlock`.
-#[tactic(auto, unfolding(crate::specs::StatementReading::with_address, mm_reading::specs::Parsing::pure))]
+#[tactic(auto, unfolding(mm_grammar::specs::reading::StatementReading::with_address, mm_reading::specs::Parsing::pure))]
 pub fn read_unlock<'a>(
     alloc: Global,
     ts: &'a [Terminal<'a>],
@@ -113,7 +114,7 @@ pub fn read_unlock<'a>(
 }
 
 /// What stands behind the first two arguments of `pthread_create`.
-#[tactic(auto, unfolding(crate::specs::StatementReading::started, mm_reading::specs::Parsing::pure))]
+#[tactic(auto, unfolding(mm_grammar::specs::reading::StatementReading::started, mm_reading::specs::Parsing::pure))]
 fn read_started<'a>(
     alloc: Global,
     thread: Word,
@@ -130,7 +131,7 @@ fn read_started<'a>(
 }
 
 /// What stands behind `pthread_create`.
-#[tactic(auto, unfolding(crate::specs::StatementReading::start, mm_reading::specs::Parsing::pure))]
+#[tactic(auto, unfolding(mm_grammar::specs::reading::StatementReading::start, mm_reading::specs::Parsing::pure))]
 pub fn read_start<'a>(
     alloc: Global,
     ts: &'a [Terminal<'a>],
@@ -146,7 +147,7 @@ pub fn read_start<'a>(
 }
 
 /// What stands behind `pthread_join`.
-#[tactic(auto, unfolding(crate::specs::StatementReading::join, mm_reading::specs::Parsing::pure))]
+#[tactic(auto, unfolding(mm_grammar::specs::reading::StatementReading::join, mm_reading::specs::Parsing::pure))]
 pub fn read_join<'a>(
     alloc: Global,
     ts: &'a [Terminal<'a>],
@@ -162,7 +163,7 @@ pub fn read_join<'a>(
 }
 
 /// What stands behind `goto`.
-#[tactic(auto, unfolding(crate::specs::StatementReading::goto, mm_reading::specs::Parsing::pure))]
+#[tactic(auto, unfolding(mm_grammar::specs::reading::StatementReading::goto, mm_reading::specs::Parsing::pure))]
 pub fn read_goto<'a>(
     alloc: Global,
     ts: &'a [Terminal<'a>],
@@ -174,13 +175,13 @@ pub fn read_goto<'a>(
 }
 
 /// What stands behind `return`: a value or none, and `;`.
-#[tactic(auto, unfolding(crate::specs::StatementReading::given, mm_reading::specs::Parsing::peek, mm_reading::specs::Parsing::skip, mm_reading::specs::Parsing::pure, mm_reading::specs::Parsing::fail))]
+#[tactic(auto, unfolding(mm_grammar::specs::reading::StatementReading::given, mm_reading::specs::Parsing::peek, mm_reading::specs::Parsing::skip, mm_reading::specs::Parsing::pure, mm_reading::specs::Parsing::fail))]
 pub fn read_given<'a>(
     alloc: Global,
     bound: usize,
     depth: u32,
     ts: &'a [Terminal<'a>],
-) -> Result<(Option<Value>, &'a [Terminal<'a>]), Refused>
+) -> Result<(Option<Boxed<Value>>, &'a [Terminal<'a>]), Refused>
     ensures { Gives result (spec.given bound ts.now) }
 {
     match ts {
@@ -194,7 +195,8 @@ pub fn read_given<'a>(
         ] => Ok((None, rest)),
         _ => {
             let (value, rest) = read_value(alloc, bound, depth, ts)?;
-            keep(Some(value), read_semicolon(rest))
+            let rest = read_semicolon(rest)?;
+            Ok((Some(value), rest))
         }
     }
 }

@@ -1,32 +1,32 @@
 //! Assignments.
-ghost use Rattle.std.specs.Prelude.{◌≡◌};
+ghost use Rattle.std.specs.Prelude.{◌≡◌, IfOk};
 ghost use Rattle.mm_reading.specs.Gives.{Gives};
-ghost use Rattle.mm_parse.specs.StatementGrammar as grammar;
-ghost use Rattle.mm_parse.specs.StatementReading as spec;
+ghost use Rattle.mm_grammar.specs.StatementGrammar as grammar;
+ghost use Rattle.mm_grammar.specs.reading.StatementReading as spec;
 
 use super::left::read_left;
 use super::value::read_value;
-use mm_goto::{At, Binary};
+use mm_goto::{At, Binary, NoMemory};
 use mm_parse_expr::{Symbol, Terminal, read_expr};
-use mm_reading::{Refused, pair};
+use mm_reading::Refused;
 use mm_tree::{Expr, Left, Node, StmtNode};
+use sqlite_items::Boxed;
 use std::alloc::Global;
 
 /// The number 1, at this place.
-pub fn one(at: At) -> Expr
-    ensures { result ≡ grammar.one at }
+pub fn one(alloc: Global, at: At) -> Result<Boxed<Expr>, NoMemory>
+    ensures { IfOk result (λ e. e ≡ grammar.one at) }
 {
-    let node = Node::Number(1);
-    Expr { at, node }
+    Expr::boxed(alloc, at, Node::Number(1))
 }
 
 /// What stands behind a left side.
-#[tactic(auto, unfolding(crate::specs::StatementReading::set, mm_reading::specs::Parsing::peek, mm_reading::specs::Parsing::skip, mm_reading::specs::Parsing::pure, mm_reading::specs::Parsing::fail))]
+#[tactic(auto, unfolding(mm_grammar::specs::reading::StatementReading::set, mm_reading::specs::Parsing::peek, mm_reading::specs::Parsing::skip, mm_reading::specs::Parsing::pure, mm_reading::specs::Parsing::fail))]
 pub fn read_set<'a>(
     alloc: Global,
     bound: usize,
     depth: u32,
-    left: Left,
+    left: Boxed<Left>,
     ts: &'a [Terminal<'a>],
 ) -> Result<(StmtNode, &'a [Terminal<'a>]), Refused>
     ensures { Gives result (spec.set bound left ts.now) }
@@ -36,21 +36,27 @@ pub fn read_set<'a>(
     };
     match first.symbol {
         Symbol::Assign => {
-            let ((left, value), rest) = pair(left, read_value(alloc, bound, depth, rest))?;
+            let (value, rest) = read_value(alloc, bound, depth, rest)?;
             Ok((StmtNode::Assign(left, value), rest))
         }
         Symbol::Update(op) => {
-            let ((left, expr), rest) = pair(left, read_expr(alloc, bound, depth, rest))?;
+            let (expr, rest) = read_expr(alloc, bound, depth, rest)?;
             Ok((StmtNode::Update(left, op, expr), rest))
         }
-        Symbol::Increment => Ok((StmtNode::Update(left, Binary::Add, one(first.at)), rest)),
-        Symbol::Decrement => Ok((StmtNode::Update(left, Binary::Sub, one(first.at)), rest)),
+        Symbol::Increment => {
+            let one = one(alloc, first.at)?;
+            Ok((StmtNode::Update(left, Binary::Add, one), rest))
+        }
+        Symbol::Decrement => {
+            let one = one(alloc, first.at)?;
+            Ok((StmtNode::Update(left, Binary::Sub, one), rest))
+        }
         _ => Err(Refused::Fault(ts.len())),
     }
 }
 
 /// What stands behind `++`.
-#[tactic(auto, unfolding(crate::specs::StatementReading::increment, mm_reading::specs::Parsing::pure))]
+#[tactic(auto, unfolding(mm_grammar::specs::reading::StatementReading::increment, mm_reading::specs::Parsing::pure))]
 pub fn read_increment<'a>(
     alloc: Global,
     bound: usize,
@@ -61,11 +67,12 @@ pub fn read_increment<'a>(
     ensures { Gives result (spec.increment bound first.now ts.now) }
 {
     let (left, rest) = read_left(alloc, bound, depth, ts)?;
-    Ok((StmtNode::Update(left, Binary::Add, one(first.at)), rest))
+    let one = one(alloc, first.at)?;
+    Ok((StmtNode::Update(left, Binary::Add, one), rest))
 }
 
 /// What stands behind `--`.
-#[tactic(auto, unfolding(crate::specs::StatementReading::decrement, mm_reading::specs::Parsing::pure))]
+#[tactic(auto, unfolding(mm_grammar::specs::reading::StatementReading::decrement, mm_reading::specs::Parsing::pure))]
 pub fn read_decrement<'a>(
     alloc: Global,
     bound: usize,
@@ -76,11 +83,12 @@ pub fn read_decrement<'a>(
     ensures { Gives result (spec.decrement bound first.now ts.now) }
 {
     let (left, rest) = read_left(alloc, bound, depth, ts)?;
-    Ok((StmtNode::Update(left, Binary::Sub, one(first.at)), rest))
+    let one = one(alloc, first.at)?;
+    Ok((StmtNode::Update(left, Binary::Sub, one), rest))
 }
 
 /// An assignment. It wants memory where `depth` is 0, and `bound` is above the number of tokens.
-#[tactic(auto, unfolding(crate::specs::StatementReading::assign, mm_reading::specs::Parsing::peek, mm_reading::specs::Parsing::skip, mm_reading::specs::Parsing::fail))]
+#[tactic(auto, unfolding(mm_grammar::specs::reading::StatementReading::assign, mm_reading::specs::Parsing::peek, mm_reading::specs::Parsing::skip, mm_reading::specs::Parsing::fail))]
 pub fn read_assign<'a>(
     alloc: Global,
     bound: usize,

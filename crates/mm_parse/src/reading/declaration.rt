@@ -2,14 +2,14 @@
 ghost use Rattle.std.specs.Prelude.{◌≡◌};
 ghost use Rattle.mm_reading.specs.Gives.{Gives};
 ghost use Rattle.mm_reading.specs.Parsing.{head};
-ghost use Rattle.mm_parse.specs.Begun.{begun};
-ghost use Rattle.mm_parse.specs.StatementReading as spec;
+ghost use Rattle.mm_parse.specs.reading.Begun.{begun};
+ghost use Rattle.mm_grammar.specs.reading.StatementReading as spec;
 
 use super::list::{Part, read_list};
 use super::marks::{read_int_word, read_semicolon, read_star};
 use super::value::read_value;
 use mm_parse_expr::{Keyword, Symbol, Terminal, read_name};
-use mm_reading::{Refused, keep, pair};
+use mm_reading::{Refused, keep};
 use mm_tree::{Local, StmtNode, Word};
 use std::alloc::Global;
 
@@ -70,7 +70,7 @@ fn read_local<'a>(
             },
             rest @ ..,
         ] => {
-            let ((name, value), rest) = pair(name, read_value(alloc, bound, depth, rest))?;
+            let (value, rest) = read_value(alloc, bound, depth, rest)?;
             let value = Some(value);
             Ok((
                 Local {
@@ -94,7 +94,7 @@ fn read_local<'a>(
     }
 }
 
-#[tactic(auto, unfolding(crate::specs::StatementReading::local_item, mm_reading::specs::Parsing::peek))]
+#[tactic(auto, unfolding(mm_grammar::specs::reading::StatementReading::local_item, mm_reading::specs::Parsing::peek))]
 fn read_local_item<'a>(
     alloc: Global,
     bound: usize,
@@ -109,7 +109,7 @@ fn read_local_item<'a>(
 }
 
 /// What stands behind `int`.
-#[tactic(auto, unfolding(crate::specs::StatementReading::ints, mm_reading::specs::Parsing::pure))]
+#[tactic(auto, unfolding(mm_grammar::specs::reading::StatementReading::ints, mm_reading::specs::Parsing::pure))]
 fn read_ints<'a>(
     alloc: Global,
     bound: usize,
@@ -123,7 +123,7 @@ fn read_ints<'a>(
 }
 
 /// What stands behind `pthread_t`.
-#[tactic(auto, unfolding(crate::specs::StatementReading::threads, mm_reading::specs::Parsing::pure))]
+#[tactic(auto, unfolding(mm_grammar::specs::reading::StatementReading::threads, mm_reading::specs::Parsing::pure))]
 fn read_threads<'a>(
     alloc: Global,
     bound: usize,

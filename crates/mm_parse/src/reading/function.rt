@@ -2,7 +2,7 @@
 ghost use Rattle.std.specs.Prelude.{◌≡◌};
 ghost use Rattle.mm_reading.specs.Gives.{Gives as Reads};
 ghost use Rattle.mm_reading.specs.Parsing.{Parsed, head};
-ghost use Rattle.mm_parse.specs.ProgramReading as spec;
+ghost use Rattle.mm_grammar.specs.reading.ProgramReading as spec;
 
 use super::list::{Part, read_list};
 use super::marks::{read_int_word, read_open_brace, read_open_mark, read_semicolon, read_star};
@@ -21,7 +21,7 @@ impl Part for ParamItem {
 
     ghost item = { spec.param_item };
 
-    #[tactic(auto, unfolding(crate::specs::ProgramReading::param_item, mm_reading::specs::Parsing::pure))]
+    #[tactic(auto, unfolding(mm_grammar::specs::reading::ProgramReading::param_item, mm_reading::specs::Parsing::pure))]
     fn read<'a>(
         alloc: Global,
         bound: usize,
@@ -36,7 +36,7 @@ impl Part for ParamItem {
 }
 
 /// A block, which is the body of a function.
-#[tactic(auto, unfolding(crate::specs::ProgramReading::function, mm_reading::specs::Parsing::pure))]
+#[tactic(auto, unfolding(mm_grammar::specs::reading::ProgramReading::function, mm_reading::specs::Parsing::pure))]
 fn read_function<'a>(
     alloc: Global,
     bound: usize,
@@ -64,7 +64,7 @@ fn read_function<'a>(
 }
 
 /// The parameters of a function behind the open parenthesis, and the closing one.
-#[tactic(auto, unfolding(crate::specs::ProgramReading::params, mm_reading::specs::Parsing::peek, mm_reading::specs::Parsing::skip, mm_reading::specs::Parsing::pure, mm_reading::specs::Parsing::fail))]
+#[tactic(auto, unfolding(mm_grammar::specs::reading::ProgramReading::params, mm_reading::specs::Parsing::peek, mm_reading::specs::Parsing::skip, mm_reading::specs::Parsing::pure, mm_reading::specs::Parsing::fail))]
 fn read_params<'a>(
     alloc: Global,
     bound: usize,
@@ -164,7 +164,7 @@ fn read_behind_void<'a>(
 }
 
 /// The parameter of a thread's function behind the open parenthesis, and the closing one.
-#[tactic(auto, unfolding(crate::specs::ProgramReading::thread_params, mm_reading::specs::Parsing::peek, mm_reading::specs::Parsing::skip, mm_reading::specs::Parsing::pure, mm_reading::specs::Parsing::fail))]
+#[tactic(auto, unfolding(mm_grammar::specs::reading::ProgramReading::thread_params, mm_reading::specs::Parsing::peek, mm_reading::specs::Parsing::skip, mm_reading::specs::Parsing::pure, mm_reading::specs::Parsing::fail))]
 fn read_thread_params<'a>(
     alloc: Global,
     ts: &'a [Terminal<'a>],
@@ -191,7 +191,7 @@ fn read_thread_params<'a>(
 }
 
 /// What stands behind `void *`.
-#[tactic(auto, unfolding(crate::specs::ProgramReading::thread_function))]
+#[tactic(auto, unfolding(mm_grammar::specs::reading::ProgramReading::thread_function))]
 fn read_thread_function<'a>(
     alloc: Global,
     bound: usize,
@@ -207,7 +207,7 @@ fn read_thread_function<'a>(
 }
 
 /// Parameters and a block.
-#[tactic(auto, unfolding(crate::specs::ProgramReading::with_params))]
+#[tactic(auto, unfolding(mm_grammar::specs::reading::ProgramReading::with_params))]
 pub fn read_with_params<'a>(
     alloc: Global,
     bound: usize,
@@ -223,7 +223,7 @@ pub fn read_with_params<'a>(
 }
 
 /// What stands behind `void`.
-#[tactic(auto, unfolding(crate::specs::ProgramReading::void_item, mm_reading::specs::Parsing::peek, mm_reading::specs::Parsing::skip, mm_reading::specs::Parsing::fail))]
+#[tactic(auto, unfolding(mm_grammar::specs::reading::ProgramReading::void_item, mm_reading::specs::Parsing::peek, mm_reading::specs::Parsing::skip, mm_reading::specs::Parsing::fail))]
 pub fn read_void_item<'a>(
     alloc: Global,
     bound: usize,
@@ -250,7 +250,7 @@ pub fn read_void_item<'a>(
 }
 
 /// What stands behind `int`, a name and an empty list of parameters.
-#[tactic(auto, unfolding(crate::specs::ProgramReading::no_params, mm_reading::specs::Parsing::peek, mm_reading::specs::Parsing::skip, mm_reading::specs::Parsing::pure, mm_reading::specs::Parsing::fail))]
+#[tactic(auto, unfolding(mm_grammar::specs::reading::ProgramReading::no_params, mm_reading::specs::Parsing::peek, mm_reading::specs::Parsing::skip, mm_reading::specs::Parsing::pure, mm_reading::specs::Parsing::fail))]
 fn read_no_params<'a>(
     alloc: Global,
     bound: usize,
@@ -285,7 +285,7 @@ fn read_no_params<'a>(
 }
 
 /// What stands behind `int`, a name and `(`.
-#[tactic(auto, unfolding(crate::specs::ProgramReading::asked, mm_reading::specs::Parsing::peek, mm_reading::specs::Parsing::skip, mm_reading::specs::Parsing::fail))]
+#[tactic(auto, unfolding(mm_grammar::specs::reading::ProgramReading::asked, mm_reading::specs::Parsing::peek, mm_reading::specs::Parsing::skip, mm_reading::specs::Parsing::fail))]
 pub fn read_asked<'a>(
     alloc: Global,
     bound: usize,
@@ -324,7 +324,7 @@ pub fn read_asked<'a>(
 }
 
 /// `void` where it stands there.
-#[tactic(auto, unfolding(crate::specs::ProgramReading::void_or_not, mm_reading::specs::Parsing::peek, mm_reading::specs::Parsing::skip, mm_reading::specs::Parsing::pure))]
+#[tactic(auto, unfolding(mm_grammar::specs::reading::ProgramReading::void_or_not, mm_reading::specs::Parsing::peek, mm_reading::specs::Parsing::skip, mm_reading::specs::Parsing::pure))]
 fn read_void_or_not<'a>(ts: &'a [Terminal<'a>]) -> &'a [Terminal<'a>]
     ensures { spec.void_or_not ts.now ≡ Parsed tt result.now }
 {
@@ -341,7 +341,7 @@ fn read_void_or_not<'a>(ts: &'a [Terminal<'a>]) -> &'a [Terminal<'a>]
 }
 
 /// What stands behind `extern`.
-#[tactic(auto, unfolding(crate::specs::ProgramReading::external, mm_reading::specs::Parsing::pure))]
+#[tactic(auto, unfolding(mm_grammar::specs::reading::ProgramReading::external, mm_reading::specs::Parsing::pure))]
 pub fn read_external<'a>(
     alloc: Global,
     ts: &'a [Terminal<'a>],

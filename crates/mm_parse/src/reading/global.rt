@@ -2,9 +2,9 @@
 ghost use Rattle.std.specs.Prelude.{◌≡◌, false, IfOk};
 ghost use Rattle.mm_reading.specs.Gives.{Gives};
 ghost use Rattle.mm_reading.specs.Parsing.{head};
-ghost use Rattle.mm_parse.specs.BegunItems as begun;
-ghost use Rattle.mm_parse.specs.ProgramGrammar as grammar;
-ghost use Rattle.mm_parse.specs.ProgramReading as spec;
+ghost use Rattle.mm_parse.specs.reading.BegunItems as begun;
+ghost use Rattle.mm_tree.specs.Trees as trees;
+ghost use Rattle.mm_grammar.specs.reading.ProgramReading as spec;
 
 use super::list::{Part, read_list};
 use super::marks::{read_close_brace, read_initializer, read_open_brace, read_star};
@@ -13,6 +13,7 @@ use mm_goto::{List, NoMemory};
 use mm_parse_expr::{Symbol, Terminal, read_close_bracket, read_name};
 use mm_reading::{Refused, keep, pair};
 use mm_tree::{Expr, Global as Variable, Word};
+use sqlite_items::Boxed;
 use std::alloc::Global;
 
 /// A global variable that is declared.
@@ -47,7 +48,8 @@ impl Part for ConstItem {
         depth: u32,
         ts: &'a [Terminal<'a>],
     ) -> Result<(Expr, &'a [Terminal<'a>]), Refused> {
-        read_const(ts)
+        let (number, rest) = read_const(alloc, ts)?;
+        Ok((number.into_inner(), rest))
     }
 }
 
@@ -59,7 +61,7 @@ impl Part for MutexItem {
 
     ghost item = { spec.mutex_item };
 
-    #[tactic(auto, unfolding(crate::specs::ProgramReading::mutex_item, mm_reading::specs::Parsing::peek, mm_reading::specs::Parsing::skip, mm_reading::specs::Parsing::pure))]
+    #[tactic(auto, unfolding(mm_grammar::specs::reading::ProgramReading::mutex_item, mm_reading::specs::Parsing::peek, mm_reading::specs::Parsing::skip, mm_reading::specs::Parsing::pure))]
     fn read<'a>(
         alloc: Global,
         bound: usize,
@@ -85,14 +87,14 @@ fn scalar_tree(
     alloc: Global,
     pointer: bool,
     name: Word,
-    value: Option<Expr>,
+    value: Option<Boxed<Expr>>,
 ) -> Result<Variable, NoMemory>
     ensures { IfOk result (λ g. g ≡ begun.scalar_tree pointer name value) }
 {
     let Word { at, name } = name;
     let mut init = Vec::new(alloc);
     if let Some(value) = value {
-        init.push(value)?;
+        init.push(value.into_inner())?;
     }
     Ok(Variable {
         at,
@@ -104,7 +106,7 @@ fn scalar_tree(
 }
 
 fn array_tree(name: Word, len: i32, init: List<Expr>) -> Variable
-    ensures { result ≡ grammar.global name.at false name.name (Some len) init }
+    ensures { result ≡ trees.global name.at false name.name (Some len) init }
 {
     let Word { at, name } = name;
     Variable {
@@ -117,7 +119,7 @@ fn array_tree(name: Word, len: i32, init: List<Expr>) -> Variable
 }
 
 /// What stands behind the name of a variable that is no array.
-#[tactic(auto, unfolding(crate::specs::ProgramReading::scalar, mm_reading::specs::Parsing::peek, mm_reading::specs::Parsing::skip, mm_reading::specs::Parsing::pure))]
+#[tactic(auto, unfolding(mm_grammar::specs::reading::ProgramReading::scalar, mm_reading::specs::Parsing::peek, mm_reading::specs::Parsing::skip, mm_reading::specs::Parsing::pure))]
 pub fn read_scalar<'a>(
     alloc: Global,
     pointer: bool,
@@ -173,7 +175,7 @@ fn read_elements<'a>(
 }
 
 /// What stands behind the name of an array and `[`.
-#[tactic(auto, unfolding(crate::specs::ProgramReading::array, mm_reading::specs::Parsing::peek))]
+#[tactic(auto, unfolding(mm_grammar::specs::reading::ProgramReading::array, mm_reading::specs::Parsing::peek))]
 fn read_array<'a>(
     alloc: Global,
     bound: usize,
@@ -189,7 +191,7 @@ fn read_array<'a>(
 }
 
 /// What stands behind a name without a star.
-#[tactic(auto, unfolding(crate::specs::ProgramReading::plain, crate::specs::ProgramReading::scalar, mm_reading::specs::Parsing::peek, mm_reading::specs::Parsing::skip, mm_reading::specs::Parsing::pure))]
+#[tactic(auto, unfolding(mm_grammar::specs::reading::ProgramReading::plain, mm_grammar::specs::reading::ProgramReading::scalar, mm_reading::specs::Parsing::peek, mm_reading::specs::Parsing::skip, mm_reading::specs::Parsing::pure))]
 pub fn read_plain<'a>(
     alloc: Global,
     bound: usize,
@@ -211,7 +213,7 @@ pub fn read_plain<'a>(
     }
 }
 
-#[tactic(auto, unfolding(crate::specs::ProgramReading::global_item))]
+#[tactic(auto, unfolding(mm_grammar::specs::reading::ProgramReading::global_item))]
 fn read_global_item<'a>(
     alloc: Global,
     bound: usize,

@@ -1,9 +1,9 @@
 //! Items and programs.
 ghost use Rattle.mm_reading.specs.Gives.{Gives as Reads};
 ghost use Rattle.mm_reading.specs.Parsing.{head};
-ghost use Rattle.mm_parse.specs.Begun.{begun, GivesAll};
-ghost use Rattle.mm_parse.specs.BegunItems as part;
-ghost use Rattle.mm_parse.specs.ProgramReading as spec;
+ghost use Rattle.mm_parse.specs.reading.Begun.{begun, GivesAll};
+ghost use Rattle.mm_parse.specs.reading.BegunItems as part;
+ghost use Rattle.mm_grammar.specs.reading.ProgramReading as spec;
 
 use super::declaration::NameItem;
 use super::function::{read_asked, read_external, read_void_item, read_with_params};
@@ -32,7 +32,7 @@ fn read_globals<'a>(
 }
 
 /// What stands behind `int` and a name.
-#[tactic(auto, unfolding(crate::specs::ProgramReading::globals, mm_reading::specs::Parsing::skip, mm_reading::specs::Parsing::fail))]
+#[tactic(auto, unfolding(mm_grammar::specs::reading::ProgramReading::globals, mm_reading::specs::Parsing::skip, mm_reading::specs::Parsing::fail))]
 fn read_int_named<'a>(
     alloc: Global,
     bound: usize,
@@ -67,7 +67,7 @@ fn read_int_named<'a>(
 }
 
 /// What stands behind `int *` and a name.
-#[tactic(auto, unfolding(crate::specs::ProgramReading::globals, mm_reading::specs::Parsing::skip, mm_reading::specs::Parsing::fail))]
+#[tactic(auto, unfolding(mm_grammar::specs::reading::ProgramReading::globals, mm_reading::specs::Parsing::skip, mm_reading::specs::Parsing::fail))]
 fn read_pointer<'a>(
     alloc: Global,
     bound: usize,
@@ -101,7 +101,7 @@ fn read_pointer<'a>(
 }
 
 /// What stands behind `int`.
-#[tactic(auto, unfolding(crate::specs::ProgramReading::int_item, mm_reading::specs::Parsing::peek, mm_reading::specs::Parsing::skip, mm_reading::specs::Parsing::fail))]
+#[tactic(auto, unfolding(mm_grammar::specs::reading::ProgramReading::int_item, mm_reading::specs::Parsing::peek, mm_reading::specs::Parsing::skip, mm_reading::specs::Parsing::fail))]
 fn read_int_item<'a>(
     alloc: Global,
     bound: usize,
@@ -132,7 +132,7 @@ fn read_int_item<'a>(
 }
 
 /// What stands behind `pthread_mutex_t`.
-#[tactic(auto, unfolding(crate::specs::ProgramReading::mutexes, mm_reading::specs::Parsing::pure))]
+#[tactic(auto, unfolding(mm_grammar::specs::reading::ProgramReading::mutexes, mm_reading::specs::Parsing::pure))]
 fn read_mutexes<'a>(
     alloc: Global,
     bound: usize,
@@ -146,7 +146,7 @@ fn read_mutexes<'a>(
 }
 
 /// What stands behind `pthread_t`.
-#[tactic(auto, unfolding(crate::specs::ProgramReading::threads, mm_reading::specs::Parsing::pure))]
+#[tactic(auto, unfolding(mm_grammar::specs::reading::ProgramReading::threads, mm_reading::specs::Parsing::pure))]
 fn read_threads<'a>(
     alloc: Global,
     bound: usize,
@@ -230,7 +230,7 @@ fn read_item<'a>(
 }
 
 /// The next item, and `None` where no more tokens stand there.
-#[tactic(auto, unfolding(crate::specs::BegunItems::next_item, mm_reading::specs::Parsing::peek, mm_reading::specs::Parsing::skip, mm_reading::specs::Parsing::pure, mm_reading::specs::Parsing::fail))]
+#[tactic(auto, unfolding(crate::specs::reading::BegunItems::next_item, mm_reading::specs::Parsing::peek, mm_reading::specs::Parsing::skip, mm_reading::specs::Parsing::pure, mm_reading::specs::Parsing::fail))]
 fn read_next_item<'a>(
     alloc: Global,
     bound: usize,
@@ -272,7 +272,7 @@ fn read_items<'a>(
 }
 
 /// A program. It wants memory where `depth` is too small for what is open, and `bound` is above the number of tokens.
-#[tactic(auto, unfolding(crate::specs::ProgramReading::program, mm_reading::specs::Parsing::pure))]
+#[tactic(auto, unfolding(mm_grammar::specs::reading::ProgramReading::program, mm_reading::specs::Parsing::pure))]
 pub fn read_program<'a>(
     alloc: Global,
     bound: usize,

@@ -2,7 +2,7 @@
 ghost use Rattle.std.specs.Prelude.{◌≡◌, ◌∷◌, MatchOption};
 ghost use Rattle.mm_reading.specs.Gives.{Gives};
 ghost use Rattle.mm_reading.specs.Parsing.{Parsed, Fault, after, pure};
-ghost use Rattle.mm_parse.specs.StatementReading as spec;
+ghost use Rattle.mm_grammar.specs.reading.StatementReading as spec;
 
 use mm_goto::List;
 use mm_parse_expr::{Symbol, Terminal};
@@ -12,7 +12,7 @@ use std::alloc::Global;
 /// What stands between the commas of a list.
 pub trait Part {
     ghost use Rattle.std.specs.Prelude.{ℕ};
-    ghost use Rattle.mm_parse_expr.specs.Reading.{Reader};
+    ghost use Rattle.mm_parse_expr.specs.reading.ExprReading.{Reader};
 
     type Value: Drop;
 
@@ -29,7 +29,7 @@ pub trait Part {
 }
 
 /// What stands behind a comma, where one stands next.
-#[tactic(auto, unfolding(crate::specs::StatementReading::comma, mm_reading::specs::Parsing::token, mm_reading::specs::Parsing::peek, mm_reading::specs::Parsing::skip, mm_reading::specs::Parsing::pure, mm_reading::specs::Parsing::fail))]
+#[tactic(auto, unfolding(mm_grammar::specs::reading::StatementReading::comma, mm_reading::specs::Parsing::token, mm_reading::specs::Parsing::peek, mm_reading::specs::Parsing::skip, mm_reading::specs::Parsing::pure, mm_reading::specs::Parsing::fail))]
 fn behind_comma<'a>(ts: &'a [Terminal<'a>]) -> Option<&'a [Terminal<'a>]>
     ensures { MatchOption result (spec.comma ts.now ≡ Fault ts.now) (λ rest. spec.comma ts.now ≡ Parsed tt rest.now) }
 {
@@ -80,7 +80,7 @@ pub fn read_others<'a, P: Part>(
 }
 
 /// A list of one or more.
-#[tactic(auto, unfolding(crate::specs::StatementReading::list))]
+#[tactic(auto, unfolding(mm_grammar::specs::reading::StatementReading::list))]
 pub fn read_list<'a, P: Part>(
     alloc: Global,
     bound: usize,

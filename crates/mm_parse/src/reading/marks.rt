@@ -2,8 +2,8 @@
 ghost use Rattle.std.specs.Prelude.{◌≡◌};
 ghost use Rattle.mm_reading.specs.Gives.{Gives, GivesUnit};
 ghost use Rattle.mm_reading.specs.Parsing.{Parsed};
-ghost use Rattle.mm_parse.specs.ProgramReading as program;
-ghost use Rattle.mm_parse.specs.StatementReading as spec;
+ghost use Rattle.mm_grammar.specs.reading.ProgramReading as program;
+ghost use Rattle.mm_grammar.specs.reading.StatementReading as spec;
 
 use mm_goto::{Binary, Ident};
 use mm_parse_expr::{Keyword, Symbol, Terminal};
@@ -11,7 +11,7 @@ use mm_reading::Refused;
 use std::alloc::Global;
 
 /// `;`.
-#[tactic(auto, unfolding(crate::specs::StatementReading::semicolon, mm_reading::specs::Parsing::token, mm_reading::specs::Parsing::peek, mm_reading::specs::Parsing::skip, mm_reading::specs::Parsing::pure, mm_reading::specs::Parsing::fail))]
+#[tactic(auto, unfolding(mm_grammar::specs::reading::StatementReading::semicolon, mm_reading::specs::Parsing::token, mm_reading::specs::Parsing::peek, mm_reading::specs::Parsing::skip, mm_reading::specs::Parsing::pure, mm_reading::specs::Parsing::fail))]
 pub fn read_semicolon<'a>(ts: &'a [Terminal<'a>]) -> Result<&'a [Terminal<'a>], Refused>
     ensures { GivesUnit result (spec.semicolon ts.now) }
 {
@@ -28,7 +28,7 @@ pub fn read_semicolon<'a>(ts: &'a [Terminal<'a>]) -> Result<&'a [Terminal<'a>], 
 }
 
 /// `,`.
-#[tactic(auto, unfolding(crate::specs::StatementReading::comma, mm_reading::specs::Parsing::token, mm_reading::specs::Parsing::peek, mm_reading::specs::Parsing::skip, mm_reading::specs::Parsing::pure, mm_reading::specs::Parsing::fail))]
+#[tactic(auto, unfolding(mm_grammar::specs::reading::StatementReading::comma, mm_reading::specs::Parsing::token, mm_reading::specs::Parsing::peek, mm_reading::specs::Parsing::skip, mm_reading::specs::Parsing::pure, mm_reading::specs::Parsing::fail))]
 pub fn read_comma<'a>(ts: &'a [Terminal<'a>]) -> Result<&'a [Terminal<'a>], Refused>
     ensures { GivesUnit result (spec.comma ts.now) }
 {
@@ -45,7 +45,7 @@ pub fn read_comma<'a>(ts: &'a [Terminal<'a>]) -> Result<&'a [Terminal<'a>], Refu
 }
 
 /// `(`.
-#[tactic(auto, unfolding(crate::specs::StatementReading::open_mark, mm_reading::specs::Parsing::token, mm_reading::specs::Parsing::peek, mm_reading::specs::Parsing::skip, mm_reading::specs::Parsing::pure, mm_reading::specs::Parsing::fail))]
+#[tactic(auto, unfolding(mm_grammar::specs::reading::StatementReading::open_mark, mm_reading::specs::Parsing::token, mm_reading::specs::Parsing::peek, mm_reading::specs::Parsing::skip, mm_reading::specs::Parsing::pure, mm_reading::specs::Parsing::fail))]
 pub fn read_open_mark<'a>(ts: &'a [Terminal<'a>]) -> Result<&'a [Terminal<'a>], Refused>
     ensures { GivesUnit result (spec.open_mark ts.now) }
 {
@@ -62,7 +62,7 @@ pub fn read_open_mark<'a>(ts: &'a [Terminal<'a>]) -> Result<&'a [Terminal<'a>], 
 }
 
 /// `&`.
-#[tactic(auto, unfolding(crate::specs::StatementReading::ampersand, mm_reading::specs::Parsing::token, mm_reading::specs::Parsing::peek, mm_reading::specs::Parsing::skip, mm_reading::specs::Parsing::pure, mm_reading::specs::Parsing::fail))]
+#[tactic(auto, unfolding(mm_grammar::specs::reading::StatementReading::ampersand, mm_reading::specs::Parsing::token, mm_reading::specs::Parsing::peek, mm_reading::specs::Parsing::skip, mm_reading::specs::Parsing::pure, mm_reading::specs::Parsing::fail))]
 pub fn read_ampersand<'a>(ts: &'a [Terminal<'a>]) -> Result<&'a [Terminal<'a>], Refused>
     ensures { GivesUnit result (spec.ampersand ts.now) }
 {
@@ -79,7 +79,7 @@ pub fn read_ampersand<'a>(ts: &'a [Terminal<'a>]) -> Result<&'a [Terminal<'a>], 
 }
 
 /// `while`.
-#[tactic(auto, unfolding(crate::specs::StatementReading::while_word, mm_reading::specs::Parsing::token, mm_reading::specs::Parsing::peek, mm_reading::specs::Parsing::skip, mm_reading::specs::Parsing::pure, mm_reading::specs::Parsing::fail))]
+#[tactic(auto, unfolding(mm_grammar::specs::reading::StatementReading::while_word, mm_reading::specs::Parsing::token, mm_reading::specs::Parsing::peek, mm_reading::specs::Parsing::skip, mm_reading::specs::Parsing::pure, mm_reading::specs::Parsing::fail))]
 pub fn read_while_word<'a>(ts: &'a [Terminal<'a>]) -> Result<&'a [Terminal<'a>], Refused>
     ensures { GivesUnit result (spec.while_word ts.now) }
 {
@@ -96,7 +96,7 @@ pub fn read_while_word<'a>(ts: &'a [Terminal<'a>]) -> Result<&'a [Terminal<'a>],
 }
 
 /// `int`.
-#[tactic(auto, unfolding(crate::specs::StatementReading::int_word, mm_reading::specs::Parsing::token, mm_reading::specs::Parsing::peek, mm_reading::specs::Parsing::skip, mm_reading::specs::Parsing::pure, mm_reading::specs::Parsing::fail))]
+#[tactic(auto, unfolding(mm_grammar::specs::reading::StatementReading::int_word, mm_reading::specs::Parsing::token, mm_reading::specs::Parsing::peek, mm_reading::specs::Parsing::skip, mm_reading::specs::Parsing::pure, mm_reading::specs::Parsing::fail))]
 pub fn read_int_word<'a>(ts: &'a [Terminal<'a>]) -> Result<&'a [Terminal<'a>], Refused>
     ensures { GivesUnit result (spec.int_word ts.now) }
 {
@@ -113,7 +113,7 @@ pub fn read_int_word<'a>(ts: &'a [Terminal<'a>]) -> Result<&'a [Terminal<'a>], R
 }
 
 /// `NULL` or the number 0.
-#[tactic(auto, unfolding(crate::specs::StatementReading::null, mm_reading::specs::Parsing::token, mm_reading::specs::Parsing::peek, mm_reading::specs::Parsing::skip, mm_reading::specs::Parsing::pure, mm_reading::specs::Parsing::fail))]
+#[tactic(auto, unfolding(mm_grammar::specs::reading::StatementReading::null, mm_reading::specs::Parsing::token, mm_reading::specs::Parsing::peek, mm_reading::specs::Parsing::skip, mm_reading::specs::Parsing::pure, mm_reading::specs::Parsing::fail))]
 pub fn read_null<'a>(ts: &'a [Terminal<'a>]) -> Result<&'a [Terminal<'a>], Refused>
     ensures { GivesUnit result (spec.null ts.now) }
 {
@@ -130,7 +130,7 @@ pub fn read_null<'a>(ts: &'a [Terminal<'a>]) -> Result<&'a [Terminal<'a>], Refus
 }
 
 /// `{`.
-#[tactic(auto, unfolding(crate::specs::ProgramReading::open_brace, mm_reading::specs::Parsing::token, mm_reading::specs::Parsing::peek, mm_reading::specs::Parsing::skip, mm_reading::specs::Parsing::pure, mm_reading::specs::Parsing::fail))]
+#[tactic(auto, unfolding(mm_grammar::specs::reading::ProgramReading::open_brace, mm_reading::specs::Parsing::token, mm_reading::specs::Parsing::peek, mm_reading::specs::Parsing::skip, mm_reading::specs::Parsing::pure, mm_reading::specs::Parsing::fail))]
 pub fn read_open_brace<'a>(ts: &'a [Terminal<'a>]) -> Result<&'a [Terminal<'a>], Refused>
     ensures { GivesUnit result (program.open_brace ts.now) }
 {
@@ -147,7 +147,7 @@ pub fn read_open_brace<'a>(ts: &'a [Terminal<'a>]) -> Result<&'a [Terminal<'a>],
 }
 
 /// `}`.
-#[tactic(auto, unfolding(crate::specs::ProgramReading::close_brace, mm_reading::specs::Parsing::token, mm_reading::specs::Parsing::peek, mm_reading::specs::Parsing::skip, mm_reading::specs::Parsing::pure, mm_reading::specs::Parsing::fail))]
+#[tactic(auto, unfolding(mm_grammar::specs::reading::ProgramReading::close_brace, mm_reading::specs::Parsing::token, mm_reading::specs::Parsing::peek, mm_reading::specs::Parsing::skip, mm_reading::specs::Parsing::pure, mm_reading::specs::Parsing::fail))]
 pub fn read_close_brace<'a>(ts: &'a [Terminal<'a>]) -> Result<&'a [Terminal<'a>], Refused>
     ensures { GivesUnit result (program.close_brace ts.now) }
 {
@@ -164,7 +164,7 @@ pub fn read_close_brace<'a>(ts: &'a [Terminal<'a>]) -> Result<&'a [Terminal<'a>]
 }
 
 /// `PTHREAD_MUTEX_INITIALIZER`.
-#[tactic(auto, unfolding(crate::specs::ProgramReading::initializer, mm_reading::specs::Parsing::token, mm_reading::specs::Parsing::peek, mm_reading::specs::Parsing::skip, mm_reading::specs::Parsing::pure, mm_reading::specs::Parsing::fail))]
+#[tactic(auto, unfolding(mm_grammar::specs::reading::ProgramReading::initializer, mm_reading::specs::Parsing::token, mm_reading::specs::Parsing::peek, mm_reading::specs::Parsing::skip, mm_reading::specs::Parsing::pure, mm_reading::specs::Parsing::fail))]
 pub fn read_initializer<'a>(ts: &'a [Terminal<'a>]) -> Result<&'a [Terminal<'a>], Refused>
     ensures { GivesUnit result (program.initializer ts.now) }
 {
@@ -181,7 +181,7 @@ pub fn read_initializer<'a>(ts: &'a [Terminal<'a>]) -> Result<&'a [Terminal<'a>]
 }
 
 /// A text between quotes.
-#[tactic(auto, unfolding(crate::specs::StatementReading::text, mm_reading::specs::Parsing::token, mm_reading::specs::Parsing::peek, mm_reading::specs::Parsing::skip, mm_reading::specs::Parsing::pure, mm_reading::specs::Parsing::fail))]
+#[tactic(auto, unfolding(mm_grammar::specs::reading::StatementReading::text, mm_reading::specs::Parsing::token, mm_reading::specs::Parsing::peek, mm_reading::specs::Parsing::skip, mm_reading::specs::Parsing::pure, mm_reading::specs::Parsing::fail))]
 pub fn read_text<'a>(
     alloc: Global,
     ts: &'a [Terminal<'a>],
@@ -202,7 +202,7 @@ pub fn read_text<'a>(
 }
 
 /// A `*` where one stands there, and whether one does.
-#[tactic(auto, unfolding(crate::specs::StatementReading::star, mm_reading::specs::Parsing::peek, mm_reading::specs::Parsing::skip, mm_reading::specs::Parsing::pure))]
+#[tactic(auto, unfolding(mm_grammar::specs::reading::StatementReading::star, mm_reading::specs::Parsing::peek, mm_reading::specs::Parsing::skip, mm_reading::specs::Parsing::pure))]
 pub fn read_star<'a>(ts: &'a [Terminal<'a>]) -> (bool, &'a [Terminal<'a>])
     ensures { spec.star ts.now ≡ Parsed result.0 result.1.now }
 {

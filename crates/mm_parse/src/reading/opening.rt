@@ -1,7 +1,7 @@
 //! How statements begin: what is read before a statement or block that they hold.
 ghost use Rattle.mm_reading.specs.Gives.{Gives};
-ghost use Rattle.mm_parse.specs.Begun as begun;
-ghost use Rattle.mm_parse.specs.Openings as openings;
+ghost use Rattle.mm_parse.specs.reading.Begun as begun;
+ghost use Rattle.mm_parse.specs.reading.Openings as openings;
 
 use super::declaration::read_declaration;
 use super::header::{read_header, read_test};
@@ -14,24 +14,24 @@ use sqlite_items::Boxed;
 use std::alloc::Global;
 
 /// What stands before the one statement that is held.
-#[derive(Debug, Drop)]
+#[derive(Drop)]
 pub enum Head {
-    While(Expr),
+    While(Boxed<Expr>),
     Do,
     /// What the loop begins with, its test, and what it does between its rounds.
-    For(Option<Boxed<Stmt>>, Expr, Option<Boxed<Stmt>>),
+    For(Option<Boxed<Stmt>>, Boxed<Expr>, Option<Boxed<Stmt>>),
     Label(Word),
 }
 
 /// How a statement begins.
-#[derive(Debug, Drop)]
+#[derive(Drop)]
 pub enum Opening {
     /// It holds no other, and is read to its end.
     Whole(StmtNode),
     /// `{`.
     Block,
     /// `if` and the test.
-    When(Expr),
+    When(Boxed<Expr>),
     Holds(Head),
 }
 
@@ -51,7 +51,7 @@ fn read_whole<'a>(
 }
 
 /// What stands behind a name: a call, the colon of a label, or an assignment.
-#[tactic(auto, unfolding(crate::specs::Openings::named, mm_reading::specs::Parsing::peek, mm_reading::specs::Parsing::skip, mm_reading::specs::Parsing::pure, mm_reading::specs::Parsing::fail))]
+#[tactic(auto, unfolding(crate::specs::reading::Openings::named, mm_reading::specs::Parsing::peek, mm_reading::specs::Parsing::skip, mm_reading::specs::Parsing::pure, mm_reading::specs::Parsing::fail))]
 fn read_named<'a>(
     alloc: Global,
     bound: usize,
@@ -143,7 +143,7 @@ fn read_part<'a>(
 }
 
 /// What a statement begins with, and its place.
-#[tactic(auto, unfolding(crate::specs::Openings::opening, mm_reading::specs::Parsing::peek, mm_reading::specs::Parsing::skip, mm_reading::specs::Parsing::pure, mm_reading::specs::Parsing::fail))]
+#[tactic(auto, unfolding(crate::specs::reading::Openings::opening, mm_reading::specs::Parsing::peek, mm_reading::specs::Parsing::skip, mm_reading::specs::Parsing::pure, mm_reading::specs::Parsing::fail))]
 pub fn read_opening<'a>(
     alloc: Global,
     bound: usize,
@@ -162,7 +162,7 @@ pub fn read_opening<'a>(
 }
 
 /// What the next declaration or statement of a block begins with, and its place, and `None` for the closing brace.
-#[tactic(auto, unfolding(crate::specs::Openings::next, mm_reading::specs::Parsing::peek, mm_reading::specs::Parsing::skip, mm_reading::specs::Parsing::pure, mm_reading::specs::Parsing::fail))]
+#[tactic(auto, unfolding(crate::specs::reading::Openings::next, mm_reading::specs::Parsing::peek, mm_reading::specs::Parsing::skip, mm_reading::specs::Parsing::pure, mm_reading::specs::Parsing::fail))]
 pub fn read_next_opening<'a>(
     alloc: Global,
     bound: usize,

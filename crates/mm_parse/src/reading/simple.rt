@@ -1,8 +1,8 @@
 //! Statements that hold no other, behind their first token.
 ghost use Rattle.mm_reading.specs.Gives.{Gives};
-ghost use Rattle.mm_parse.specs.Begun as begun;
-ghost use Rattle.mm_parse.specs.Openings as openings;
-ghost use Rattle.mm_parse.specs.StatementReading as spec;
+ghost use Rattle.mm_parse.specs.reading.Begun as begun;
+ghost use Rattle.mm_parse.specs.reading.Openings as openings;
+ghost use Rattle.mm_grammar.specs.reading.StatementReading as spec;
 
 use super::action::{
     read_assert, read_assume, read_bare, read_ended, read_given, read_goto, read_join, read_lock,
@@ -15,6 +15,7 @@ use mm_goto::Binary;
 use mm_parse_expr::{Keyword, Symbol, Terminal};
 use mm_reading::Refused;
 use mm_tree::{Left, StmtNode};
+use sqlite_items::Boxed;
 use std::alloc::Global;
 
 fn read_fetch_add_ended<'a>(
@@ -86,7 +87,7 @@ fn read_set_ended<'a>(
     alloc: Global,
     bound: usize,
     depth: u32,
-    left: Left,
+    left: Boxed<Left>,
     ts: &'a [Terminal<'a>],
 ) -> Result<(StmtNode, &'a [Terminal<'a>]), Refused>
     ensures { Gives result (begun.closed (spec.set bound left) ts.now) }

@@ -1,9 +1,9 @@
 //! Statements.
 ghost use Rattle.mm_reading.specs.Gives.{Gives};
 ghost use Rattle.mm_reading.specs.Parsing.{head};
-ghost use Rattle.mm_parse.specs.Begun as begun;
-ghost use Rattle.mm_parse.specs.Openings as openings;
-ghost use Rattle.mm_parse.specs.StatementReading as spec;
+ghost use Rattle.mm_parse.specs.reading.Begun as begun;
+ghost use Rattle.mm_parse.specs.reading.Openings as openings;
+ghost use Rattle.mm_grammar.specs.reading.StatementReading as spec;
 
 use super::action::read_ended;
 use super::header::read_test;
@@ -39,7 +39,7 @@ fn read_closing<'a>(
             let (test, rest) = read_test(alloc, bound, depth, rest)?;
             read_ended(StmtNode::DoWhile(held, test), rest)
         }
-        Head::For(begin, test, step) => { Ok((StmtNode::For(begin, Some(test), step, held), ts)) }
+        Head::For(begin, test, step) => Ok((StmtNode::For(begin, Some(test), step, held), ts)),
         Head::Label(word) => Ok((StmtNode::Label(word, held), ts)),
     }
 }
@@ -51,7 +51,7 @@ fn read_else<'a>(
     alloc: Global,
     bound: usize,
     depth: u32,
-    test: Expr,
+    test: Boxed<Expr>,
     then: Boxed<Stmt>,
     ts: &'a [Terminal<'a>],
 ) -> Result<(StmtNode, &'a [Terminal<'a>]), Refused>
@@ -66,10 +66,7 @@ fn read_else<'a>(
             rest @ ..,
         ] => {
             let (other, rest) = read_stmt(alloc, bound, depth, rest)?;
-            Ok((
-                StmtNode::If(test, then, Some(Boxed::new(alloc, other)?)),
-                rest,
-            ))
+            Ok((StmtNode::If(test, then, Some(other)), rest))
         }
         _ => Ok((StmtNode::If(test, then, None), ts)),
     }
@@ -82,13 +79,13 @@ fn read_when<'a>(
     alloc: Global,
     bound: usize,
     depth: u32,
-    test: Expr,
+    test: Boxed<Expr>,
     ts: &'a [Terminal<'a>],
 ) -> Result<(StmtNode, &'a [Terminal<'a>]), Refused>
     ensures { Gives result (openings.branched (spec.inner bound) test ts.now) }
 {
     let (then, rest) = read_stmt(alloc, bound, depth, ts)?;
-    read_else(alloc, bound, depth, test, Boxed::new(alloc, then)?, rest)
+    read_else(alloc, bound, depth, test, then, rest)
 }
 
 /// The one statement that is held, and what stands behind it.
@@ -103,7 +100,7 @@ fn read_held<'a>(
     ensures { Gives result (openings.held bound (spec.inner bound) head ts.now) }
 {
     let (held, rest) = read_stmt(alloc, bound, depth, ts)?;
-    read_closing(alloc, bound, depth, head, Boxed::new(alloc, held)?, rest)
+    read_closing(alloc, bound, depth, head, held, rest)
 }
 
 /// A block behind its open brace.
@@ -146,13 +143,13 @@ fn read_within<'a>(
 
 /// A statement. It wants memory where `depth` is below `STATEMENT`, and `bound` is above the number of tokens.
 #[cycle(statement)]
-#[tactic(auto, unfolding(crate::specs::StatementReading::inner, mm_reading::specs::Parsing::fail))]
+#[tactic(auto, unfolding(mm_grammar::specs::reading::StatementReading::inner, mm_reading::specs::Parsing::fail))]
 fn read_stmt<'a>(
     alloc: Global,
     bound: usize,
     depth: u32,
     ts: &'a [Terminal<'a>],
-) -> Result<(Stmt, &'a [Terminal<'a>]), Refused>
+) -> Result<(Boxed<Stmt>, &'a [Terminal<'a>]), Refused>
     ensures { Gives result (spec.stmt bound ts.now) }
 {
     if depth < STATEMENT {
@@ -164,7 +161,7 @@ fn read_stmt<'a>(
     let (found, rest) = read_opening(alloc, bound - 1, depth - STATEMENT, ts)?;
     let (at, opening) = found;
     let (node, rest) = read_within(alloc, bound - 1, depth - STATEMENT, opening, rest)?;
-    Ok((Stmt { at, node }, rest))
+    Ok((Stmt::boxed(alloc, at, node)?, rest))
 }
 
 /// The next declaration or statement of a block, and `None` for its closing brace.
@@ -174,7 +171,7 @@ fn read_next<'a>(
     bound: usize,
     depth: u32,
     ts: &'a [Terminal<'a>],
-) -> Result<(Option<Stmt>, &'a [Terminal<'a>]), Refused>
+) -> Result<(Option<Boxed<Stmt>>, &'a [Terminal<'a>]), Refused>
     ensures { Gives result (begun.next bound (spec.inner bound) ts.now) }
 {
     let (next, rest) = read_next_opening(alloc, bound, depth, ts)?;
@@ -183,7 +180,7 @@ fn read_next<'a>(
     };
     let (at, opening) = found;
     let (node, rest) = read_within(alloc, bound, depth, opening, rest)?;
-    Ok((Some(Stmt { at, node }), rest))
+    Ok((Some(Stmt::boxed(alloc, at, node)?), rest))
 }
 
 /// The declarations and statements of a block, and its closing brace. It wants memory where `depth` is too small for a
@@ -206,7 +203,7 @@ pub fn read_body<'a>(
         let Some(stmt) = next else {
             return Ok((stmts, others));
         };
-        stmts.push(stmt)?;
+        stmts.push(stmt.into_inner())?;
         rest = onwards(others);
     }
     Err(Refused::Fault(rest.len()))

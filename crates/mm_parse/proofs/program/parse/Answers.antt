@@ -3,8 +3,8 @@ use Rattle.mm_lexer.proofs.Spans.{all_spans}
 use Rattle.mm_parse_expr.specs.declared.terminal.Terminal.{Terminal}
 use Rattle.mm_parse_expr.specs.Terminals.{terminal_of}
 use Rattle.mm_parse.specs.Faults.{too_deep}
-use Rattle.mm_parse.specs.Nesting.{deep_at}
-use Rattle.mm_parse.specs.ProgramGrammar.{IsProgram}
+use Rattle.mm_grammar.specs.Nesting.{deep_at}
+use Rattle.mm_grammar.specs.ProgramGrammar.{IsProgram}
 use Rattle.mm_parse.proofs.Parsed.{is_program, no_program_at}
 use Rattle.mm_parse.proofs.program.parse.Goals as goal
 

@@ -1,6 +1,6 @@
 use Rattle.std.proofs.Common.{◌-◌, ◌∙◌, List, length, take, drop, subst, sym}
 use Rattle.mm_parse_expr.specs.declared.terminal.Terminal.{Terminal}
-use Rattle.mm_parse_expr.specs.Reading.{HasNoOperator, HasOperator}
+use Rattle.mm_parse_expr.specs.reading.ExprReading.{HasNoOperator, HasOperator}
 use Rattle.mm_parse_expr.proofs.Operators.{whole, none_at_end, none, some}
 use Rattle.mm_parse_expr.proofs.reading.next_operator.Goals as goal
 

@@ -3,7 +3,7 @@ use Rattle.mm_sched.specs.ScheduleText.{IsSchedule}
 use Rattle.mm_run.specs.declared.answer.Answer.{Answer}
 use Rattle.mm_run.specs.declared.status.Status.TheVariants.{Done, Stuck}
 use Rattle.mm_run.specs.Lines.{stuck_line, verdict_line}
-use Rattle.mm_run.specs.Replay.{Replays}
+use Rattle.mm_run.specs.Answer.{Replays}
 use Rattle.mm_run.proofs.Answering.{if_ok}
 use Rattle.mm_run.proofs.Replaying.{replay_ends, replay_sticks}
 use Rattle.mm_run.proofs.replay.replay.Goals as goal

@@ -5,7 +5,7 @@ use Rattle.mm_sched.specs.ScheduleText.{IsBadLine, IsFault}
 use Rattle.mm_run.specs.declared.answer.Answer.{Answer}
 use Rattle.mm_run.specs.declared.status.Status.TheVariants.{BadSchedule}
 use Rattle.mm_run.specs.Lines.{bad_line}
-use Rattle.mm_run.specs.Replay.{Replays}
+use Rattle.mm_run.specs.Answer.{Replays}
 use Rattle.mm_run.proofs.Answering.{if_ok}
 use Rattle.mm_run.proofs.Replaying.{is_bad}
 use Rattle.mm_run.proofs.replay.unread.Goals as goal

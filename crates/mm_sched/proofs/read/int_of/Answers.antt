@@ -1,6 +1,6 @@
 use Rattle.std.proofs.Common.{rules, ◌≡◌, None}
 use Rattle.std.proofs.lemmas.Str.Pattern.{strip_prefix_char}
-use Rattle.mm_sched.specs.Reading.{number_of}
+use Rattle.mm_sched.specs.reading.Reading.{number_of}
 use Rattle.mm_sched.proofs.Numerals.{int_unsigned}
 use Rattle.mm_sched.proofs.read.int_of.Goals as goal
 

@@ -1,7 +1,7 @@
 use Rattle.std.proofs.Common.{◌≡◌, Some, Err, rules}
 use Rattle.mm_sched.specs.declared.schedule.SchedFault.TheVariants.{NoMemory}
 use Rattle.mm_sched.specs.ScheduleText.{newline}
-use Rattle.mm_sched.specs.Reading.{cut, next}
+use Rattle.mm_sched.specs.reading.Reading.{cut, next}
 use Rattle.mm_sched.proofs.Cutting.{cut_in}
 use Rattle.mm_sched.proofs.InTime.{in_time}
 use Rattle.mm_sched.proofs.ReadingLoop.{line_passed, line_refused, line_wanted, wants_memory, text_broken, behind_shorter}

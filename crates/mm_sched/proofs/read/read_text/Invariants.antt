@@ -2,7 +2,7 @@ use Rattle.std.proofs.Common.{◌≡◌, length}
 use denote.Shadow.{shadow}
 use denote.Text.{Utf8}
 use Rattle.mm_sched.specs.declared.read.Stage.TheVariants.{First}
-use Rattle.mm_sched.specs.Reading.{onto, read_text}
+use Rattle.mm_sched.specs.reading.Reading.{onto, read_text}
 use Rattle.mm_sched.proofs.InTime.{IsInTime}
 use Rattle.mm_sched.proofs.read.read_text.Given as goal
 

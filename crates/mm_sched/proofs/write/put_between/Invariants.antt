@@ -2,7 +2,7 @@ use Rattle.std.proofs.Common.{◌≡◌, ◌<◌, ◌++◌, drop, string_bytes}
 use Rattle.mm_sched.specs.declared.schedule.TheConstants.{FULL}
 use Rattle.mm_sched.specs.ScheduleText.{entries_in}
 use Rattle.mm_sched.specs.Spelling.{spelled_lines}
-use Rattle.mm_sched.specs.Writing.{lines_text}
+use Rattle.mm_sched.specs.reading.Writing.{lines_text}
 use Rattle.mm_sched.proofs.Spelled.{spelled_with}
 use Rattle.mm_sched.proofs.write.put_between.Given as goal
 

@@ -1,6 +1,6 @@
 use Rattle.std.proofs.Common.{◌≡◌, ◌++◌, replicate, string_bytes}
 use Rattle.mm_sched.specs.ScheduleText.{times}
-use Rattle.mm_sched.specs.Writing.{lines_text}
+use Rattle.mm_sched.specs.reading.Writing.{lines_text}
 use Rattle.mm_sched.proofs.write.put_lines.Given as goal
 
 abbrev pub invariant-loop-written : goal.invariant-loop-written

@@ -1,7 +1,7 @@
 use Rattle.std.proofs.Common.{◌-◌, ◌∙◌, arith, sym, ap}
 use Rattle.std.proofs.lemmas.Result.{err_from_is_err_and}
 use Rattle.mm_reading.specs.Gives.{left_at}
-use Rattle.mm_parse.specs.ProgramReading.{items}
+use Rattle.mm_grammar.specs.reading.ProgramReading.{items}
 use Rattle.mm_parse.proofs.Items.{items_on, items_none}
 use Rattle.mm_parse.proofs.Joined.{joined_none, fails_after, none_next, some_next}
 use Rattle.mm_parse.proofs.reading.item.read_items.Goals as goal

@@ -1,5 +1,5 @@
 use Rattle.std.proofs.Common.{◌≡◌}
-use Rattle.mm_parse.specs.ProgramReading.{items}
+use Rattle.mm_grammar.specs.reading.ProgramReading.{items}
 use Rattle.mm_parse.proofs.Joined.{joined}
 use Rattle.mm_parse.proofs.reading.item.read_items.Given as goal
 

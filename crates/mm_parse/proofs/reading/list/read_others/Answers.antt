@@ -1,6 +1,6 @@
 use Rattle.std.proofs.Common.{◌∙◌, ◌-◌, arith, sym}
 use Rattle.std.proofs.lemmas.Result.{err_from_is_err_and}
-use Rattle.mm_parse.specs.StatementReading.{others}
+use Rattle.mm_grammar.specs.reading.StatementReading.{others}
 use Rattle.mm_parse.proofs.Joined.{others_on, others_end, others_none, joined_end, more_goes, more_fails}
 use Rattle.mm_parse.proofs.reading.list.read_others.Goals as goal
 

@@ -1,5 +1,5 @@
 use Rattle.std.proofs.Common.{◌≡◌, [], ◌∷◌}
-use Rattle.mm_parse.specs.StatementReading.{others}
+use Rattle.mm_grammar.specs.reading.StatementReading.{others}
 use Rattle.mm_parse.proofs.Joined.{joined}
 use Rattle.mm_parse.proofs.reading.list.read_others.Given as goal
 

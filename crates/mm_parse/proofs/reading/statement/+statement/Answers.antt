@@ -7,11 +7,11 @@ use Rattle.mm_reading.specs.Parsing.{Parsed, after, pure}
 use Rattle.mm_reading.specs.declared.refused.Refused.{Refused}
 use Rattle.mm_parse_expr.specs.declared.terminal.Terminal.{Terminal}
 use Rattle.mm_parse.specs.declared.reading.opening.Opening.{Opening}
-use Rattle.mm_parse.specs.Begun.{next}
-use Rattle.mm_parse.specs.Openings.{opening, within, stmt_within, next_within}
-use Rattle.mm_parse.specs.Openings as openings
-use Rattle.mm_parse.specs.StatementGrammar.{statement}
-use Rattle.mm_parse.specs.StatementReading.{inner, stmt, body}
+use Rattle.mm_parse.specs.reading.Begun.{next}
+use Rattle.mm_parse.specs.reading.Openings.{opening, within, stmt_within, next_within}
+use Rattle.mm_parse.specs.reading.Openings as openings
+use Rattle.mm_tree.specs.Trees.{statement}
+use Rattle.mm_grammar.specs.reading.StatementReading.{inner, stmt, body}
 use Rattle.mm_parse.proofs.Joined.{joined_none, fails_after, none_next, some_next}
 use Rattle.mm_parse.proofs.Parts.{body_on, body_none}
 use Rattle.mm_parse.proofs.Opened.{stmt_opened, next_on}
@@ -36,7 +36,7 @@ read_body-loop-left-preserved t c =
     let on = body_on (c.loop-left.left - 1) c.loop-left.stmts.items c.loop-left.left c.loop-left.rest.now (omega arith) in
     let items = c.in_ok-push.ensures.items in
     let rest = c.onwards-rest.ensures in
-    rw (items, rest) (some_next _ (body (c.loop-left.left - 1)) _ _ _ _ _ on c.in_ok-next.ensures c.in-Some.is ∙ c.loop-left.invariant)
+    rw (items, rest, c.into_inner.ensures) (some_next _ (body (c.loop-left.left - 1)) _ _ _ _ _ on c.in_ok-next.ensures c.in-Some.is ∙ c.loop-left.invariant)
 
 pub read_body-returns : goal.read_body-returns
 read_body-returns t c = ap left_at (sym c.loop-left.invariant ∙ body_none 0 c.loop-left.stmts.items c.loop-left.left c.loop-left.rest.now (omega arith))
@@ -67,7 +67,7 @@ read_stmt-returns-in_err-node t c =
     rw (p.1, p.2) (stmt_unread (c.args.bound - 1) c.args.bound c.args.ts.now (omega arith) _ _ c.in_ok-found.ensures _ c.in_err-node.ensures)
 
 pub read_stmt-returns : goal.read_stmt-returns
-read_stmt-returns t c = stmt_read (c.args.bound - 1) c.args.bound c.args.ts.now (omega arith) _ _ c.in_ok-found.ensures _ _ c.in_ok-node.ensures
+read_stmt-returns t c = rw c.in_ok-boxed.ensures (stmt_read (c.args.bound - 1) c.args.bound c.args.ts.now (omega arith) _ _ c.in_ok-found.ensures _ _ c.in_ok-node.ensures)
 
 module _ (n : ℕ) (ts : List Terminal) where
   next_unopened : (f : Refused) → Fails f (openings.next n ts) → Fails f (next n (inner n) ts)
@@ -103,4 +103,4 @@ read_next-returns-in_err-node t c =
     rw (p.1, p.2) (next_unread c.args.bound c.args.ts.now _ _ c.in_ok-next.ensures _ c.in-Some.is _ c.in_err-node.ensures)
 
 pub read_next-returns : goal.read_next-returns
-read_next-returns t c = next_read c.args.bound c.args.ts.now _ _ c.in_ok-next.ensures _ c.in-Some.is _ _ c.in_ok-node.ensures
+read_next-returns t c = rw c.in_ok-boxed.ensures (next_read c.args.bound c.args.ts.now _ _ c.in_ok-next.ensures _ c.in-Some.is _ _ c.in_ok-node.ensures)

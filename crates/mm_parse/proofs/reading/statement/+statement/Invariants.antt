@@ -1,5 +1,5 @@
 use Rattle.std.proofs.Common.{◌≡◌, ◌+◌, ◌*◌}
-use Rattle.mm_parse.specs.StatementReading.{body}
+use Rattle.mm_grammar.specs.reading.StatementReading.{body}
 use Rattle.mm_parse.proofs.Joined.{joined}
 use Rattle.mm_parse.proofs.reading.statement.+statement.Given as goal
 

@@ -1,0 +1,5 @@
+pub mod Meaning
+pub mod Nesting
+pub mod ProgramGrammar
+pub mod StatementGrammar
+pub mod reading

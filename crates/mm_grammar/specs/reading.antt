@@ -1,0 +1,3 @@
+-- What mirrors the code: nothing that a reader believes rests on it.
+pub mod ProgramReading
+pub mod StatementReading

@@ -1,5 +1,0 @@
-use Rattle.mm_parse.proofs.ProgramRuns.{program_fault}
-use Rattle.mm_parse.proofs.laws.faults_are_first.Goals as goal
-
-pub returns : goal.returns
-returns c = program_fault

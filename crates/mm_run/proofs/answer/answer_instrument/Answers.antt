@@ -1,6 +1,0 @@
-use Rattle.mm_run.proofs.Answering.{if_ok}
-use Rattle.mm_run.specs.Answer.{Instruments}
-use Rattle.mm_run.proofs.answer.answer_instrument.Goals as goal
-
-pub returns-in-Err : goal.returns-in-Err
-returns-in-Err c = if_ok _ _ _ c.answer_fault.ensures (λ a h. Instruments.refused (h c.args.input.now c.in-Err.ensures.refused))

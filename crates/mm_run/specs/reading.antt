@@ -1,0 +1,3 @@
+-- What mirrors the code. Nothing that a reader believes rests on it.
+pub mod Whole
+pub mod Words

@@ -1,5 +1,0 @@
-use Rattle.mm_sched.proofs.Joins.{run-append}
-use Rattle.mm_sched.proofs.laws.runs_join.Goals as goal
-
-pub returns : goal.returns
-returns c = run-append

@@ -1,0 +1,5 @@
+pub mod Validity
+pub mod SmallInTurn
+pub mod SmallFlat
+pub mod SmallSourcelike
+pub mod Deciding
