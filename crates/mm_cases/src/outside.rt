@@ -18,6 +18,9 @@ pub struct Outside {
     pub fails: Option<Call>,
 }
 
+// The most bytes of an output: one that is longer differs by status 8.
+const ROOM: usize = 1 << 20;
+
 /// No fault, in long pieces.
 pub const CALM: Outside = Outside {
     piece: 1 << 20,
@@ -67,7 +70,7 @@ pub fn answer_of(
     let piece = outside.piece.max(1);
     let bytes = input.to_vec(alloc)?;
     let mut source = MemSource::new(bytes, piece, outside.failing_reads(alloc)?);
-    let mut sink = MemSink::new(alloc, 1 << 20, piece, outside.failing_writes(alloc)?).map_err(
+    let mut sink = MemSink::new(alloc, ROOM, piece, outside.failing_writes(alloc)?).map_err(
         |_| AllocError,
     )?;
     let status = run(alloc, words, &mut source, &mut sink);

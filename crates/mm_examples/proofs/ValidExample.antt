@@ -1,5 +1,5 @@
 -- The program of store buffering is valid.
-use Rattle.std.proofs.Common.{arith, ◌≡◌, ℕ, zero, suc, ◌^◌, ◌<◌, ◌≤◌, ℤ, pos, List, [], ◌∷◌, All, false, refl, sym, subst}
+use Rattle.std.proofs.Common.{arith, ◌≡◌, ℕ, zero, suc, ◌^◌, ◌<◌, ◌≤◌, pos, List, [], ◌∷◌, All, false, refl, sym, subst}
 use Rattle.std.proofs.lemmas.List.{length-replicate}
 use Rattle.std.proofs.lemmas.List.Elements.{All-from_recursion}
 use Rattle.mm_goto.specs.declared.ident.At.{At}
@@ -12,7 +12,7 @@ use Rattle.mm_goto.specs.declared.program.Thread.{Thread}
 use Rattle.mm_goto.specs.Listing.{Listing}
 use Rattle.mm_goto.specs.Locals.{local_bound_step, rows_step}
 use Rattle.mm_goto.specs.Parts.{numbers_step}
-use Rattle.mm_goto.specs.Terms.{constant, the_local, combined}
+use Rattle.mm_goto.specs.Terms.{constant, the_local}
 use Rattle.mm_goto.specs.Valid.{IsInt, IsPureIn, IsInstrIn, IsThreadIn, IsCellIn, IsStartedByMain, IsValid, start_step, starts, joins}
 use Rattle.mm_goto.specs.Sourcelike.{is_section}
 use Rattle.mm_sched.specs.Sections.{HasNoSection}

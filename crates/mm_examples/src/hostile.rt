@@ -1,5 +1,5 @@
 //! Inputs that are too long for a case.
-use crate::outside::{CALM, expect};
+use crate::outside::expect;
 use mm_run::Status;
 use std::test::Fail;
 
@@ -19,11 +19,11 @@ fn one_line_may_be_as_long_as_an_input(rt: HostRuntime) -> Result<(), Fail> {
     repeat(&mut comment, "0123456789abcdef", 1_048_575)?;
     repeat(&mut comment, " ", 12)?;
     comment.push_str("*/")?;
-    let line = "refused: 1:1 not built\n";
-    expect(&rt, TSO_1, comment.as_bytes(), CALM, Status::Refused, line)?;
+    let line = "refused: 1:1 no main\n";
+    expect(&rt, TSO_1, comment.as_bytes(), Status::Refused, line)?;
     comment.push_str(" ")?;
     let line = "too long\n";
-    expect(&rt, TSO_1, comment.as_bytes(), CALM, Status::TooLong, line)
+    expect(&rt, TSO_1, comment.as_bytes(), Status::TooLong, line)
 }
 
 #[test]
@@ -31,13 +31,13 @@ fn a_million_brackets_are_too_deep(rt: HostRuntime) -> Result<(), Fail> {
     let mut open = String::new(rt.alloc());
     repeat(&mut open, "(", 1_000_000)?;
     let line = "refused: 1:201 too deep\n";
-    expect(&rt, TSO_1, open.as_bytes(), CALM, Status::Refused, line)
+    expect(&rt, TSO_1, open.as_bytes(), Status::Refused, line)
 }
 
 #[test]
 fn an_input_that_is_too_long_is_refused(rt: HostRuntime) -> Result<(), Fail> {
     let blanks = vec![in rt.alloc(); b' '; 16_777_217]?;
-    expect(&rt, TSO_1, &blanks, CALM, Status::TooLong, "too long\n")?;
-    let line = "refused: 1:1 not built\n";
-    expect(&rt, TSO_1, &blanks[1..], CALM, Status::Refused, line)
+    expect(&rt, TSO_1, &blanks, Status::TooLong, "too long\n")?;
+    let line = "refused: 1:1 no main\n";
+    expect(&rt, TSO_1, &blanks[1..], Status::Refused, line)
 }

@@ -10,13 +10,13 @@ use Rattle.mm_parse_expr.specs.declared.symbol.Symbol.{Symbol}
 use Rattle.mm_parse_expr.specs.declared.symbol.Symbol.TheVariants.{Name, Number, Null, Keyword, Operator, Semicolon, Comma, Open, Close}
 use Rattle.mm_parse_expr.specs.declared.terminal.Terminal.{Terminal}
 use Rattle.mm_parse_expr.specs.Grammar.{terminal}
-use Rattle.mm_tree.specs.Trees.{word, left_at, local, statement}
+use Rattle.mm_tree.specs.Trees.{word}
 use Rattle.mm_parse_expr.specs.reading.ExprReading.{Reader, is_close, named, name_word}
 use Rattle.mm_parse_expr.proofs.ExprSound.{holds, as_terminal, is_a_name}
 use Rattle.mm_grammar.specs.StatementGrammar as g
-use Rattle.mm_grammar.specs.StatementGrammar.{IsLeft, IsArguments, IsCall, IsValue, IsAssign, IsNull, IsAction, AreNames, IsStar, IsLocal, AreLocals, IsDeclaration, IsStep, IsFirst, IsCondition, IsGiven, IsStmt, IsStmtNode, IsBody, one}
+use Rattle.mm_grammar.specs.StatementGrammar.{IsNull}
 use Rattle.mm_grammar.specs.reading.StatementReading as r
-use Rattle.mm_grammar.specs.reading.StatementReading.{mark, is_semicolon, is_comma, is_open, is_ampersand, is_while, is_int, is_zero, is_null, Inner}
+use Rattle.mm_grammar.specs.reading.StatementReading.{mark, is_semicolon, is_comma, is_open, is_ampersand, is_while, is_int}
 
 -- ---- one terminal
 

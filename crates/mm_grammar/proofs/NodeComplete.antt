@@ -13,11 +13,11 @@ use Rattle.mm_parse_expr.specs.declared.symbol.Symbol.{Symbol}
 use Rattle.mm_parse_expr.specs.declared.symbol.Symbol.TheVariants.{Name, Keyword, Operator, Update, Increment, Decrement, Assign, Semicolon, Comma, Open, Close, OpenBracket, OpenBrace, Text}
 use Rattle.mm_parse_expr.specs.declared.terminal.Terminal.{Terminal}
 use Rattle.mm_parse_expr.specs.Grammar.{IsExpr, terminal}
-use Rattle.mm_tree.specs.Trees.{word, left_at, local, statement}
+use Rattle.mm_tree.specs.Trees.{word, statement}
 use Rattle.mm_parse_expr.specs.reading.ExprReading.{Reader, close, name_word}
 use Rattle.mm_parse_expr.proofs.ExprComplete.{expr_complete, expr_shorter}
 use Rattle.mm_grammar.specs.StatementGrammar as g
-use Rattle.mm_grammar.specs.StatementGrammar.{IsLeft, IsArguments, IsCall, IsValue, IsAssign, IsNull, IsAction, AreNames, IsStar, IsLocal, AreLocals, IsDeclaration, IsStep, IsFirst, IsCondition, IsGiven, IsStmt, IsStmtNode, IsBody, NoElse, one}
+use Rattle.mm_grammar.specs.StatementGrammar.{IsLeft, IsAssign, IsNull, IsAction, IsDeclaration, IsStmt, IsStmtNode, IsBody, NoElse}
 use Rattle.mm_grammar.specs.reading.StatementReading as r
 use Rattle.mm_grammar.specs.reading.StatementReading.{Inner, ended}
 use Rattle.mm_grammar.proofs.StatementShorter.{first_shorter, condition_shorter, step_shorter, stmt_shorter, node_shorter, declaration_shorter}

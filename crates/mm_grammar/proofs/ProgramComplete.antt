@@ -23,7 +23,7 @@ use Rattle.mm_tree.specs.Trees.{word, global, param}
 use Rattle.mm_parse_expr.specs.reading.ExprReading.{Reader, close, close_bracket, name_word}
 use Rattle.mm_parse_expr.proofs.Follow.{Any}
 use Rattle.mm_grammar.specs.StatementGrammar as st
-use Rattle.mm_grammar.specs.StatementGrammar.{IsStar, IsBody, AreNames}
+use Rattle.mm_grammar.specs.StatementGrammar.{IsBody, AreNames}
 use Rattle.mm_grammar.specs.ProgramGrammar as g
 use Rattle.mm_grammar.specs.ProgramGrammar.{IsConst, AreConsts, IsInit, IsGlobal, AreGlobals, IsMutex, AreMutexes, IsOptional, IsParam, AreParams, IsParams, IsThreadParams, IsGives, AreQuals, IsItem, AreItems, IsProgram}
 use Rattle.mm_grammar.specs.reading.StatementReading.{semicolon, open_mark, int_word, others, list, star}

@@ -26,7 +26,7 @@ use Rattle.mm_parse_expr.specs.reading.ExprReading.{Reader, is_close, is_close_b
 use Rattle.mm_grammar.specs.StatementGrammar as st
 use Rattle.mm_grammar.specs.StatementGrammar.{AreNames, IsStar, IsBody}
 use Rattle.mm_grammar.specs.ProgramGrammar as g
-use Rattle.mm_grammar.specs.ProgramGrammar.{IsConst, AreConsts, IsInit, IsGlobal, AreGlobals, IsMutex, AreMutexes, IsOptional, IsParam, AreParams, IsParams, IsThreadParams, IsGives, AreQuals, IsItem, AreItems, IsProgram, number_at}
+use Rattle.mm_grammar.specs.ProgramGrammar.{IsConst, AreConsts, IsInit, IsGlobal, AreGlobals, IsMutex, AreMutexes, IsOptional, IsParam, AreParams, IsParams, IsThreadParams, AreQuals, IsItem, AreItems, IsProgram, number_at}
 use Rattle.mm_grammar.specs.reading.StatementReading.{semicolon, open_mark, int_word, is_semicolon, is_open, is_int, others, list, star, name_item, body}
 use Rattle.mm_grammar.specs.reading.ProgramReading as r
 use Rattle.mm_grammar.specs.reading.ProgramReading.{is_open_brace, is_close_brace, is_initializer}

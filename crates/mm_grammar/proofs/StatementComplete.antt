@@ -19,14 +19,13 @@ use Rattle.mm_parse_expr.specs.declared.symbol.Symbol.TheVariants.{Name, Keyword
 use Rattle.mm_parse_expr.specs.declared.terminal.Terminal.{Terminal}
 use Rattle.mm_parse_expr.specs.Grammar as e
 use Rattle.mm_parse_expr.specs.Grammar.{IsExpr, IsLevel, IsMore, IsUnary, IsPrimary, terminal}
-use Rattle.mm_tree.specs.Trees.{word, left_at, local, statement}
+use Rattle.mm_tree.specs.Trees.{word, left_at, local}
 use Rattle.mm_parse_expr.specs.reading.ExprReading.{Reader, lower, close, close_bracket, name_word, index}
 use Rattle.mm_parse_expr.proofs.Follow.{Any, Stops, Ends}
 use Rattle.mm_parse_expr.proofs.ExprComplete.{expr_complete, unary_complete, index_done, expr_shorter, unary_shorter}
 use Rattle.mm_grammar.specs.StatementGrammar as g
-use Rattle.mm_grammar.specs.StatementGrammar.{IsLeft, IsArguments, IsCall, IsValue, IsAssign, IsNull, IsAction, AreNames, IsStar, IsLocal, AreLocals, IsDeclaration, IsStep, IsFirst, IsCondition, IsGiven, IsStmt, IsStmtNode, IsBody, NoElse, one}
+use Rattle.mm_grammar.specs.StatementGrammar.{IsLeft, IsArguments, IsCall, IsValue, IsAssign, AreNames, IsStar, IsLocal, AreLocals, IsStep, IsFirst, IsCondition, IsGiven, one}
 use Rattle.mm_grammar.specs.reading.StatementReading as r
-use Rattle.mm_grammar.specs.reading.StatementReading.{Inner, ended}
 use Rattle.mm_grammar.proofs.MarkSound.{IsName}
 use Rattle.mm_grammar.proofs.StatementShorter.{left_shorter, local_shorter, star_shorter}
 

@@ -19,7 +19,7 @@ use Rattle.mm_tree.specs.Trees.{local}
 use Rattle.mm_grammar.specs.reading.StatementReading as r
 use Rattle.mm_grammar.proofs.MarkReads.{Follow, sample, NotStar, star_reads, star_example}
 use Rattle.mm_grammar.proofs.StatementReadsChoice as choose
-use Rattle.mm_grammar.proofs.StatementReadsChoice.{Many, Begun, begins, example_taken, reads_begun}
+use Rattle.mm_grammar.proofs.StatementReadsChoice.{Begun, begins, example_taken, reads_begun}
 use Rattle.mm_grammar.proofs.StatementReadsParts.{Reading, bound, within, done, close_reading, semicolon_reading, int_reading, name_reading, expr_reading, Listed, list_reading}
 use Rattle.mm_grammar.proofs.StatementReadsValue.{EndsValue, ends_value_by, value_ends, left_reading, value_reading}
 

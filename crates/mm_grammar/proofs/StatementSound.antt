@@ -26,7 +26,7 @@ use Rattle.mm_parse_expr.proofs.ExprSound.{HasIndex, index_sound, all_sound}
 use Rattle.mm_grammar.specs.StatementGrammar as g
 use Rattle.mm_grammar.specs.StatementGrammar.{IsLeft, IsArguments, IsCall, IsValue, IsAssign, IsNull, IsAction, AreNames, IsStar, IsLocal, AreLocals, IsDeclaration, IsStep, IsFirst, IsCondition, IsGiven, IsStmt, IsStmtNode, IsBody, one}
 use Rattle.mm_grammar.specs.reading.StatementReading as r
-use Rattle.mm_grammar.specs.reading.StatementReading.{mark, is_semicolon, is_comma, is_open, is_ampersand, is_while, is_int, is_zero, is_null, Inner}
+use Rattle.mm_grammar.specs.reading.StatementReading.{is_semicolon, is_comma, is_open, is_ampersand, is_while, is_int, Inner}
 use Rattle.mm_grammar.proofs.MarkSound.{IsName, tells_close, tells_semicolon, tells_comma, tells_open, tells_ampersand, tells_while, tells_int, sound_mark, sound_until, sound_name, sound_until_name, null_sound, list_sound}
 
 -- ---- left sides

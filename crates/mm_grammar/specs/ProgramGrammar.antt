@@ -1,5 +1,5 @@
 -- The grammar of items and programs, line by line: from the terminals ts on there is a tree, and then the terminals rest.
-use Rattle.std.specs.Prelude.{ℕ, ℤ, Bool, true, false, List, [], ◌∷◌, Option, Some, None}
+use Rattle.std.specs.Prelude.{ℕ, ℤ, Bool, true, false, List, [], ◌∷◌, Some, None}
 use Rattle.std.specs.Int.{w32, int_wrapping_neg}
 use Rattle.mm_goto.specs.declared.ident.At.{At}
 use Rattle.mm_goto.specs.declared.pure.Binary.TheVariants as binary

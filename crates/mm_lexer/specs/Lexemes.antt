@@ -1,5 +1,5 @@
 -- What a text says to a reader who does not ask where: its tokens by their kinds and bytes alone.
-use Rattle.std.specs.Prelude.{◌≡◌, ℕ, true, ◌&&◌, ◌||◌, ◌==◌, Bool, if◌then◌else◌, List, [], ◌∷◌, take, drop}
+use Rattle.std.specs.Prelude.{◌≡◌, ℕ, ◌&&◌, ◌||◌, ◌==◌, Bool, if◌then◌else◌, List, [], ◌∷◌, take, drop}
 use Rattle.std.specs.Str.{encode_utf8_all}
 use Rattle.mm_lexer.specs.declared.piece.Piece.TheVariants as piece
 use Rattle.mm_lexer.specs.declared.token.Token.{Token}

@@ -6,9 +6,9 @@ use Rattle.mm_reading.specs.Runs.{IsRead, IsFirstFault}
 use Rattle.mm_reading.proofs.Sounding.{SoundAt}
 use Rattle.mm_reading.proofs.LongestRuns.{parsed_is_read, fault_is_first}
 use Rattle.mm_parse_expr.specs.declared.terminal.Terminal.{Terminal}
-use Rattle.mm_parse_expr.specs.Grammar.{IsExpr, IsUnary, IsExpression, IsUnaryExpression}
+use Rattle.mm_parse_expr.specs.Grammar.{IsExpr, IsExpression, IsUnaryExpression}
 use Rattle.mm_parse_expr.specs.reading.ExprReading.{lower}
-use Rattle.mm_parse_expr.proofs.Follow.{Any, Stops, Ends}
+use Rattle.mm_parse_expr.proofs.Follow.{Any, Ends}
 use Rattle.mm_parse_expr.proofs.ExprSound.{all_sound}
 use Rattle.mm_parse_expr.proofs.ExprComplete.{expr_complete, unary_complete}
 use Rattle.mm_parse_expr.proofs.ExprOnward.{all_onward}

@@ -6,7 +6,6 @@ use Rattle.mm_goto.specs.declared.pure.Binary.TheVariants as bin
 use Rattle.mm_goto.specs.declared.pure.Unary.TheVariants as un
 use Rattle.mm_tree.specs.declared.expr.Expr.{Expr}
 use Rattle.mm_tree.specs.declared.expr.Node.TheVariants as node
-use Rattle.mm_tree.specs.declared.expr.Word.{Word}
 use Rattle.mm_tree.specs.Trees.{expr as tree, place_of, word}
 use Rattle.mm_parse_expr.specs.declared.symbol.Symbol.{Symbol}
 use Rattle.mm_parse_expr.specs.declared.symbol.Symbol.TheVariants.{Name, Number, Null, Operator, Not, Flip, Question, Colon, Open, Close, OpenBracket, CloseBracket}

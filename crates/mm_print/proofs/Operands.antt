@@ -18,7 +18,7 @@ use Rattle.mm_parse_expr.specs.declared.symbol.Symbol.TheVariants as symbol
 use Rattle.mm_parse_expr.specs.declared.terminal.Terminal.{Terminal}
 use Rattle.mm_parse_expr.specs.Symbols.{word_symbol}
 use Rattle.mm_parse_expr.specs.Grammar as g
-use Rattle.mm_parse_expr.specs.Grammar.{IsExpr, IsLevel, IsMore, IsUnary, IsPrimary, terminal, binary_tree}
+use Rattle.mm_parse_expr.specs.Grammar.{IsExpr, IsLevel, IsPrimary, terminal, binary_tree}
 use Rattle.mm_print.specs.SmallListing.{IsSmallExpr}
 use Rattle.mm_print.specs.SmallText.{Written, written, written_step, operand, local_text, label_text}
 use Rattle.mm_print.proofs.Lookup.{declared, local_found}

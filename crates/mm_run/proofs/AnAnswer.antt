@@ -1,12 +1,12 @@
 -- An input has an answer.
 use Rattle.std.proofs.Common.{◌≡◌, ◌⊎◌, inl, inr, ⊎_elim, ℕ, zero, suc, ◌+◌, ◌<◌, ◌≤◌, Bool, true, false, List, [], ◌∷◌, ◌++◌, length, take, drop, map, codes, Option, Some, None, option_and_then, refl, sym, ◌∙◌, ap, subst, arith, append_assoc, length-append, IsUtf8}
-use Rattle.std.specs.Str.{IsValidUpTo, chars, is_utf8}
+use Rattle.std.specs.Str.{chars, is_utf8}
 use Rattle.std.proofs.lemmas.Bool.{cases_lt}
 use Rattle.std.proofs.lemmas.List.{length-drop, length-take-le, take_all, take-append-drop}
 use Rattle.std.proofs.lemmas.Str.{IsUtf8-from_is_utf8, is_utf8-from_IsUtf8, IsUtf8-nil}
 use Rattle.mm_goto.specs.declared.ident.At.{At}
 use Rattle.mm_goto.specs.declared.model.Model.{Model}
-use Rattle.mm_goto.specs.Bounds.{Bounding, IsBound}
+use Rattle.mm_goto.specs.Bounds.{Bounding}
 use Rattle.mm_goto.specs.Listing.{Listing}
 use Rattle.mm_goto.specs.Place.{place_after, start}
 use Rattle.mm_goto.specs.Valid.{IsValid}
@@ -37,11 +37,10 @@ use Rattle.mm_grammar.proofs.ProgramSound.{program_sound}
 use Rattle.mm_sched.specs.declared.entry.Entry.{Entry}
 use Rattle.mm_sched.specs.declared.entry.Rules.{Rules}
 use Rattle.mm_sched.specs.declared.entry.Rules.TheVariants.{Sc, Buffered}
-use Rattle.mm_sched.specs.declared.schedule.Line.{Line}
 use Rattle.mm_sched.specs.State.{State, initial}
 use Rattle.mm_sched.specs.Event.{next}
 use Rattle.mm_sched.specs.Runs.{run}
-use Rattle.mm_sched.specs.ScheduleText.{IsBadLine, IsSchedule, entries_in}
+use Rattle.mm_sched.specs.ScheduleText.{entries_in}
 use Rattle.mm_sched.proofs.ReadingOn.{one_of_them}
 use Rattle.mm_small.specs.Flat.{listing_of}
 use Rattle.mm_small.specs.SmallProgram.{IsSmall}
@@ -54,11 +53,17 @@ use Rattle.mm_run.specs.declared.command.Settings.{Settings}
 use Rattle.mm_run.specs.declared.command.Settings.TheVariants.{Instrument, ReplaySc, Replay}
 use Rattle.mm_run.specs.declared.status.Status.{Status}
 use Rattle.mm_run.specs.declared.status.Status.TheVariants.{Done, Refused}
-use Rattle.mm_run.specs.Answer.{AnswersParts, AnswersProgram, AnswersText, AnswersWhole, PrintsWoven, ProgramAnswer, Refusing, Replays, ScheduleAnswer}
+use Rattle.mm_run.specs.Answer.{AnswersParts, AnswersProgram, AnswersText, AnswersWhole, PrintsWoven, Refusing, Replays}
+use Rattle.mm_names.specs.declared.refusal.NameFault.{NameFault}
+use Rattle.mm_names.specs.declared.refusal.NameFault.TheVariants as name_fault
+use Rattle.mm_names.specs.Programs.{IsAccepted as MakesSense, IsRefused as IsNameFault, no_main, at_fault, refusal_of}
+use Rattle.mm_scope.specs.declared.fault.Rule.{Rule}
+use Rattle.mm_scope.specs.declared.fault.Rule.TheVariants as rule
+use Rattle.mm_names.proofs.Decided.{each}
 use Rattle.mm_run.specs.Lines.{refusal_line, verdict_line}
 use Rattle.mm_run.specs.Outcome.{IsStuckBehind, Outcome, TellsVerdict}
 use Rattle.mm_run.specs.Parts.{IsNotUtf8, IsParting, IsSplit, LacksPart}
-use Rattle.mm_run.specs.Program.{HasFault, Intake, IsNotBuilt, IsProgramText, IsRefused, small_source}
+use Rattle.mm_run.specs.Program.{Intake, IsProgramText, IsRefused, small_source}
 use Rattle.mm_run.specs.Settings.{IsThere}
 use Rattle.mm_run.proofs.Alike.{is_listing, is_woven}
 
@@ -209,13 +214,42 @@ unlexed_refuses taken text lex_fault.NoMemory h = absurd (never (piece_at h.plac
     never piece.Bad e = cc
     never piece.TooLarge e = cc
 
-small_program : (text : List ℕ) (tree : Tree) → IsTreeOf small_source.side text tree → IsSmall tree ⊎ (IsSmall tree → ⊥) → ((p : Listing) × IsProgramText small_source text p) ⊎ HasRefusal small_source text
-small_program text tree read (inl s) = inl (listing_of s.small, record { tree = tree; read = read; built = s; flat = small_flat tree s.small s.is_small })
-small_program text tree read (inr n) = inr (start, codes "not built", IsRefused.not_built (record { tree = tree; read = read; not_built = n }))
+-- want of memory is no fault of a program
+no_memory_said : (side : Side) (tree : Tree) (fault : NameFault) → IsNameFault side tree fault → fault ≡ name_fault.NoMemory → ⊥
+no_memory_said side tree fault (no_main e) m = cc
+no_memory_said side tree fault (at_fault f main is least) m = told f.rule m
+  where
+    told : (r : Rule) → refusal_of (record { rule = r; at = f.at }) ≡ name_fault.NoMemory → ⊥
+    told rule.ReservedName m = cc
+    told rule.OutputOnly m = cc
+    told rule.TwiceDeclared m = cc
+    told rule.UnknownName m = cc
+    told rule.WrongType m = cc
+    told rule.BadThread m = cc
+    told rule.Recursion m = cc
+
+name_refuses : (taken : Intake) (text : List ℕ) (tree : Tree) → IsTreeOf taken.side text tree → (fault : NameFault) → IsNameFault taken.side tree fault → HasRefusal taken text
+name_refuses taken text tree read (name_fault.NoMain at) h = (at, codes "no main", IsRefused.no_main at (record { tree = tree; read = read; fails = h }))
+name_refuses taken text tree read (name_fault.ReservedName at) h = (at, codes "reserved name", IsRefused.reserved at (record { tree = tree; read = read; fails = h }))
+name_refuses taken text tree read (name_fault.OutputOnly at) h = (at, codes "output only", IsRefused.output_only at (record { tree = tree; read = read; fails = h }))
+name_refuses taken text tree read (name_fault.TwiceDeclared at) h = (at, codes "declared twice", IsRefused.twice at (record { tree = tree; read = read; fails = h }))
+name_refuses taken text tree read (name_fault.UnknownName at) h = (at, codes "unknown name", IsRefused.unknown at (record { tree = tree; read = read; fails = h }))
+name_refuses taken text tree read (name_fault.WrongType at) h = (at, codes "wrong type", IsRefused.wrong_type at (record { tree = tree; read = read; fails = h }))
+name_refuses taken text tree read (name_fault.BadThread at) h = (at, codes "bad thread", IsRefused.bad_thread at (record { tree = tree; read = read; fails = h }))
+name_refuses taken text tree read (name_fault.Recursion at) h = (at, codes "recursion", IsRefused.recursion at (record { tree = tree; read = read; fails = h }))
+name_refuses taken text tree read name_fault.NoMemory h = absurd (no_memory_said taken.side tree _ h refl)
+
+small_program : (text : List ℕ) (tree : Tree) → IsTreeOf small_source.side text tree → MakesSense small_source.side tree → IsSmall tree ⊎ (IsSmall tree → ⊥) → ((p : Listing) × IsProgramText small_source text p) ⊎ HasRefusal small_source text
+small_program text tree read sense (inl s) = inl (listing_of s.small, record { tree = tree; read = read; sense = sense; built = s; flat = small_flat tree s.small s.is_small })
+small_program text tree read sense (inr n) = inr (start, codes "not built", IsRefused.not_built (record { tree = tree; read = read; sense = sense; not_built = n }))
+
+sensible : (text : List ℕ) (tree : Tree) → IsTreeOf small_source.side text tree → MakesSense small_source.side tree ⊎ ((fault : NameFault) × IsNameFault small_source.side tree fault) → ((p : Listing) × IsProgramText small_source text p) ⊎ HasRefusal small_source text
+sensible text tree read (inl sense) = small_program text tree read sense (small_or_not tree)
+sensible text tree read (inr f) = inr (name_refuses small_source text tree read f.0 f.1)
 
 program_or_refusal : (text : List ℕ) → ((p : Listing) × IsProgramText small_source text p) ⊎ HasRefusal small_source text
 program_or_refusal text = ⊎_elim
-    (λ t. ⊎_elim (λ r. small_program text r.0 r.1 (small_or_not r.0)) (λ f. inr (fault_refuses small_source text t.0 t.1 f.0 f.1)) (tree_or_fault small_source.side text t.0 t.1))
+    (λ t. ⊎_elim (λ r. sensible text r.0 r.1 (each small_source.side r.0)) (λ f. inr (fault_refuses small_source text t.0 t.1 f.0 f.1)) (tree_or_fault small_source.side text t.0 t.1))
     (λ f. inr (unlexed_refuses small_source text f.0 f.1))
     (tokens_and_fault text)
 

@@ -9,6 +9,7 @@ use Rattle.mm_lexer.specs.declared.token.LexFault.TheVariants as lex_fault
 use Rattle.mm_lexer.specs.Tokens.{IsFirstFault}
 use Rattle.mm_lexer.proofs.Unique.{fault_unique, tokens_or_fault, tokens_unique}
 use Rattle.mm_reading.specs.Runs.{Language, IsLongestRun}
+use Rattle.mm_tree.specs.declared.item.Tree.{Tree}
 use Rattle.mm_tree.specs.declared.side.Side.{Side}
 use Rattle.mm_parse_expr.specs.declared.fault.ParseFault.{ParseFault}
 use Rattle.mm_parse_expr.specs.declared.fault.ParseFault.TheVariants as parse_fault
@@ -17,8 +18,12 @@ use Rattle.mm_parse.specs.Faults.{IsFault}
 use Rattle.mm_run.specs.declared.status.Status.{Status}
 use Rattle.mm_run.specs.Answer.{Refusing}
 use Rattle.mm_run.specs.Lines.{refusal_line}
-use Rattle.mm_run.specs.Program.{HasFault, Intake, IsNotBuilt, IsRefused}
-use Rattle.mm_run.proofs.Refused.{no_fault, no_parse_fault}
+use Rattle.mm_names.specs.declared.refusal.NameFault.{NameFault}
+use Rattle.mm_names.specs.declared.refusal.NameFault.TheVariants as name_fault
+use Rattle.mm_names.specs.Programs.{IsRefused as IsNameFault}
+use Rattle.mm_names.proofs.Decided.{in_one_way}
+use Rattle.mm_run.specs.Program.{HasFault, HasNameFault, Intake, IsNotBuilt, IsRefused}
+use Rattle.mm_run.proofs.Refused.{no_fault, no_parse_fault, no_name_fault, one_tree}
 
 -- ---- the fault of the grammar is one
 
@@ -45,11 +50,13 @@ one_fault side text tokens a b (IsFault.no_program rest e h) (IsFault.no_program
 data Cause : Type 0 where
   of_tokens : LexFault → Cause
   of_grammar : ParseFault → Cause
+  of_names : NameFault → Cause
   not_built : Cause
 
 abbrev HasCause : Intake → List ℕ → Cause → Type 0
 HasCause taken text (Cause.of_tokens fault) = IsFirstFault text fault
 HasCause taken text (Cause.of_grammar fault) = HasFault taken.side text fault
+HasCause taken text (Cause.of_names fault) = HasNameFault taken.side text fault
 HasCause taken text Cause.not_built = IsNotBuilt taken text
 
 -- the place of a cause; want of memory refuses no text
@@ -61,6 +68,15 @@ place_of (Cause.of_grammar (parse_fault.TooDeep at)) = at
 place_of (Cause.of_grammar (parse_fault.OutsideProfile word at)) = at
 place_of (Cause.of_grammar (parse_fault.BadSyntax at)) = at
 place_of (Cause.of_grammar parse_fault.NoMemory) = start
+place_of (Cause.of_names (name_fault.NoMain at)) = at
+place_of (Cause.of_names (name_fault.ReservedName at)) = at
+place_of (Cause.of_names (name_fault.OutputOnly at)) = at
+place_of (Cause.of_names (name_fault.TwiceDeclared at)) = at
+place_of (Cause.of_names (name_fault.UnknownName at)) = at
+place_of (Cause.of_names (name_fault.WrongType at)) = at
+place_of (Cause.of_names (name_fault.BadThread at)) = at
+place_of (Cause.of_names (name_fault.Recursion at)) = at
+place_of (Cause.of_names name_fault.NoMemory) = start
 place_of Cause.not_built = start
 
 -- and its words
@@ -72,18 +88,38 @@ words_of (Cause.of_grammar (parse_fault.TooDeep at)) = codes "too deep"
 words_of (Cause.of_grammar (parse_fault.OutsideProfile word at)) = codes "outside profile: " ++ word
 words_of (Cause.of_grammar (parse_fault.BadSyntax at)) = codes "bad syntax"
 words_of (Cause.of_grammar parse_fault.NoMemory) = []
+words_of (Cause.of_names (name_fault.NoMain at)) = codes "no main"
+words_of (Cause.of_names (name_fault.ReservedName at)) = codes "reserved name"
+words_of (Cause.of_names (name_fault.OutputOnly at)) = codes "output only"
+words_of (Cause.of_names (name_fault.TwiceDeclared at)) = codes "declared twice"
+words_of (Cause.of_names (name_fault.UnknownName at)) = codes "unknown name"
+words_of (Cause.of_names (name_fault.WrongType at)) = codes "wrong type"
+words_of (Cause.of_names (name_fault.BadThread at)) = codes "bad thread"
+words_of (Cause.of_names (name_fault.Recursion at)) = codes "recursion"
+words_of (Cause.of_names name_fault.NoMemory) = []
 words_of Cause.not_built = codes "not built"
+
+-- a text has one fault of its names and types at most
+one_name_fault : (taken : Intake) (text : List ℕ) (f g : NameFault) → HasNameFault taken.side text f → HasNameFault taken.side text g → f ≡ g
+one_name_fault taken text f g h k = in_one_way taken.side k.tree f g (subst (λ (t : Tree). IsNameFault taken.side t f) (one_tree taken.side text h.tree k.tree h.read k.read) h.fails) k.fails
 
 -- a text has one cause at most
 one_cause : (taken : Intake) (text : List ℕ) (a b : Cause) → HasCause taken text a → HasCause taken text b → a ≡ b
 one_cause taken text (Cause.of_tokens f) (Cause.of_tokens g) h k = ap Cause.of_tokens (fault_unique text f g h k)
 one_cause taken text (Cause.of_tokens f) (Cause.of_grammar g) h k = absurd (tokens_or_fault text k.tokens f k.cut h)
+one_cause taken text (Cause.of_tokens f) (Cause.of_names g) h k = absurd (no_fault taken.side text k.tree k.read f h)
 one_cause taken text (Cause.of_tokens f) Cause.not_built h k = absurd (no_fault taken.side text k.tree k.read f h)
 one_cause taken text (Cause.of_grammar f) (Cause.of_tokens g) h k = absurd (tokens_or_fault text h.tokens g h.cut k)
 one_cause taken text (Cause.of_grammar f) (Cause.of_grammar g) h k = ap Cause.of_grammar (one_fault taken.side text k.tokens f g (subst (λ (ts : List Token). IsFault taken.side text ts f) (tokens_unique text h.tokens k.tokens h.cut k.cut) h.fails) k.fails)
+one_cause taken text (Cause.of_grammar f) (Cause.of_names g) h k = absurd (no_parse_fault taken.side text k.tree k.read f h)
 one_cause taken text (Cause.of_grammar f) Cause.not_built h k = absurd (no_parse_fault taken.side text k.tree k.read f h)
+one_cause taken text (Cause.of_names f) (Cause.of_tokens g) h k = absurd (no_fault taken.side text h.tree h.read g k)
+one_cause taken text (Cause.of_names f) (Cause.of_grammar g) h k = absurd (no_parse_fault taken.side text h.tree h.read g k)
+one_cause taken text (Cause.of_names f) (Cause.of_names g) h k = ap Cause.of_names (one_name_fault taken text f g h k)
+one_cause taken text (Cause.of_names f) Cause.not_built h k = absurd (no_name_fault taken.side text k.tree k.read k.sense f h)
 one_cause taken text Cause.not_built (Cause.of_tokens g) h k = absurd (no_fault taken.side text h.tree h.read g k)
 one_cause taken text Cause.not_built (Cause.of_grammar g) h k = absurd (no_parse_fault taken.side text h.tree h.read g k)
+one_cause taken text Cause.not_built (Cause.of_names g) h k = absurd (no_name_fault taken.side text h.tree h.read h.sense g k)
 one_cause taken text Cause.not_built Cause.not_built h k = refl
 
 -- ---- refusals
@@ -101,6 +137,14 @@ caused taken text at why (IsRefused.large_number q f) = record { cause = Cause.o
 caused taken text at why (IsRefused.too_deep q f) = record { cause = Cause.of_grammar (parse_fault.TooDeep q); has = f; place = refl; words = refl }
 caused taken text at why (IsRefused.outside word q f) = record { cause = Cause.of_grammar (parse_fault.OutsideProfile word q); has = f; place = refl; words = refl }
 caused taken text at why (IsRefused.bad_syntax q f) = record { cause = Cause.of_grammar (parse_fault.BadSyntax q); has = f; place = refl; words = refl }
+caused taken text at why (IsRefused.no_main q f) = record { cause = Cause.of_names (name_fault.NoMain q); has = f; place = refl; words = refl }
+caused taken text at why (IsRefused.reserved q f) = record { cause = Cause.of_names (name_fault.ReservedName q); has = f; place = refl; words = refl }
+caused taken text at why (IsRefused.output_only q f) = record { cause = Cause.of_names (name_fault.OutputOnly q); has = f; place = refl; words = refl }
+caused taken text at why (IsRefused.twice q f) = record { cause = Cause.of_names (name_fault.TwiceDeclared q); has = f; place = refl; words = refl }
+caused taken text at why (IsRefused.unknown q f) = record { cause = Cause.of_names (name_fault.UnknownName q); has = f; place = refl; words = refl }
+caused taken text at why (IsRefused.wrong_type q f) = record { cause = Cause.of_names (name_fault.WrongType q); has = f; place = refl; words = refl }
+caused taken text at why (IsRefused.bad_thread q f) = record { cause = Cause.of_names (name_fault.BadThread q); has = f; place = refl; words = refl }
+caused taken text at why (IsRefused.recursion q f) = record { cause = Cause.of_names (name_fault.Recursion q); has = f; place = refl; words = refl }
 caused taken text at why (IsRefused.not_built f) = record { cause = Cause.not_built; has = f; place = refl; words = refl }
 
 -- a refusal has one place and one reason

@@ -24,7 +24,11 @@ use Rattle.mm_run.specs.declared.program.ProgramFault.TheVariants as program_fau
 use Rattle.mm_run.specs.Refusal.{Says, Refuses}
 use Rattle.mm_run.specs.declared.status.Status.{Status}
 use Rattle.mm_run.specs.Answer.{Refusing}
-use Rattle.mm_run.specs.Program.{HasFault, Intake, IsProgramText, IsRefused, small_source}
+use Rattle.mm_names.specs.declared.refusal.NameFault.{NameFault}
+use Rattle.mm_names.specs.declared.refusal.NameFault.TheVariants as name_fault
+use Rattle.mm_names.specs.Programs.{IsAccepted as MakesSense, IsRefused as IsNameFault}
+use Rattle.mm_names.proofs.Decided.{never_both}
+use Rattle.mm_run.specs.Program.{HasFault, HasNameFault, Intake, IsProgramText, IsRefused, small_source}
 
 -- the tree of the tokens is that of the text
 pub tree_of : (side : Side) (text : List ℕ) (tokens read : List Token) (tree : Tree) → read ≡ tokens → AreTokens text tokens → Parses side text read tree → IsTreeOf side text tree
@@ -55,6 +59,10 @@ module _ (side : Side) (text : List ℕ) (tree : Tree) (h : IsTreeOf side text t
   pub no_parse_fault : (fault : ParseFault) → HasFault side text fault → ⊥
   no_parse_fault fault f = parsed fault (subst (λ (ts : List Token). IsFault side text ts fault) (tokens_unique text f.tokens h.tokens f.cut h.cut) f.fails)
 
+-- nor has one that makes sense a fault of its names and types
+pub no_name_fault : (side : Side) (text : List ℕ) (tree : Tree) → IsTreeOf side text tree → MakesSense side tree → (fault : NameFault) → HasNameFault side text fault → ⊥
+no_name_fault side text tree read sense fault f = never_both side tree fault sense (subst (λ (t : Tree). IsNameFault side t fault) (one_tree side text f.tree tree f.read read) f.fails)
+
 module _ (taken : Intake) (text : List ℕ) (p : Listing) (h : IsProgramText taken text p) where
   pub accepted : (at : At) (why : List ℕ) → IsRefused taken text at why → ⊥
   accepted at why (IsRefused.bad_token q f) = no_fault taken.side text h.tree h.read _ f
@@ -62,6 +70,14 @@ module _ (taken : Intake) (text : List ℕ) (p : Listing) (h : IsProgramText tak
   accepted at why (IsRefused.too_deep q f) = no_parse_fault taken.side text h.tree h.read _ f
   accepted at why (IsRefused.outside word q f) = no_parse_fault taken.side text h.tree h.read _ f
   accepted at why (IsRefused.bad_syntax q f) = no_parse_fault taken.side text h.tree h.read _ f
+  accepted at why (IsRefused.no_main q f) = no_name_fault taken.side text h.tree h.read h.sense _ f
+  accepted at why (IsRefused.reserved q f) = no_name_fault taken.side text h.tree h.read h.sense _ f
+  accepted at why (IsRefused.output_only q f) = no_name_fault taken.side text h.tree h.read h.sense _ f
+  accepted at why (IsRefused.twice q f) = no_name_fault taken.side text h.tree h.read h.sense _ f
+  accepted at why (IsRefused.unknown q f) = no_name_fault taken.side text h.tree h.read h.sense _ f
+  accepted at why (IsRefused.wrong_type q f) = no_name_fault taken.side text h.tree h.read h.sense _ f
+  accepted at why (IsRefused.bad_thread q f) = no_name_fault taken.side text h.tree h.read h.sense _ f
+  accepted at why (IsRefused.recursion q f) = no_name_fault taken.side text h.tree h.read h.sense _ f
   accepted at why (IsRefused.not_built f) = f.not_built (subst taken.IsBuilt (one_tree taken.side text h.tree f.tree h.read f.read) h.built)
 
   pub not_refused : (status : Status) (out : List ℕ) → Refusing taken text status out → ⊥
@@ -81,3 +97,7 @@ lexed text fault f e n h = subst (λ (x : LexFault). IsFirstFault text x) e (h (
 -- and of the grammar
 pub known : (text : List ℕ) (tokens : List Token) (fault f : ParseFault) → AreTokens text tokens → fault ≡ f → (f ≡ parse_fault.NoMemory → ⊥) → (fault ≢ parse_fault.NoMemory → IsFault Source text tokens fault) → HasFault Source text f
 known text tokens fault f t e n h = record { tokens = tokens; cut = t; fails = subst (λ (x : ParseFault). IsFault Source text tokens x) e (h (λ m. n (sym e ∙ m))) }
+
+-- and of names and types
+pub sensed : (text : List ℕ) (tree : Tree) (fault f : NameFault) → IsTreeOf Source text tree → fault ≡ f → (f ≡ name_fault.NoMemory → ⊥) → (fault ≢ name_fault.NoMemory → IsNameFault Source tree fault) → HasNameFault Source text f
+sensed text tree fault f t e n h = record { tree = tree; read = t; fails = subst (λ (x : NameFault). IsNameFault Source tree x) e (h (λ m. n (sym e ∙ m))) }

@@ -14,6 +14,9 @@ use Rattle.mm_flat.specs.Flattening.{IsFlat}
 use Rattle.mm_parse_expr.specs.declared.fault.ParseFault.{ParseFault}
 use Rattle.mm_parse_expr.specs.declared.fault.ParseFault.TheVariants.{TooDeep, OutsideProfile, BadSyntax}
 use Rattle.mm_parse.specs.Faults.{IsFault}
+use Rattle.mm_names.specs.declared.refusal.NameFault.{NameFault}
+use Rattle.mm_names.specs.declared.refusal.NameFault.TheVariants.{NoMain, ReservedName, OutputOnly, TwiceDeclared, UnknownName, WrongType, BadThread, Recursion}
+use Rattle.mm_names.specs.Programs.{IsAccepted as MakesSense, IsRefused as IsNameFault}
 use Rattle.mm_small.specs.SmallProgram.{IsSmall}
 use Rattle.mm_grammar.specs.Meaning.{IsTreeOf}
 
@@ -26,10 +29,11 @@ pub record Intake : Type 1 where
 abbrev pub small_source : Intake
 small_source = record { side = Source; IsBuilt = IsSmall }
 
--- the text has the tree of a program that is built, and flattened it is this goto program
+-- the text has the tree of a program whose names and types make sense and which is built, and flattened it is this goto program
 pub record IsProgramText (taken : Intake) (text : List ℕ) (p : Listing) : Type 0 where
   pub tree : Tree
   pub read : IsTreeOf taken.side text tree
+  pub sense : MakesSense taken.side tree
   pub built : taken.IsBuilt tree
   pub flat : IsFlat taken.side tree p
 
@@ -39,10 +43,17 @@ pub record HasFault (side : Side) (text : List ℕ) (fault : ParseFault) : Type 
   pub cut : AreTokens text tokens
   pub fails : IsFault side text tokens fault
 
--- the text has the tree of a program that is not built
+-- the text has a tree, and this is the fault of its names and types
+pub record HasNameFault (side : Side) (text : List ℕ) (fault : NameFault) : Type 0 where
+  pub tree : Tree
+  pub read : IsTreeOf side text tree
+  pub fails : IsNameFault side tree fault
+
+-- the text has the tree of a program that makes sense and is not built
 pub record IsNotBuilt (taken : Intake) (text : List ℕ) : Type 0 where
   pub tree : Tree
   pub read : IsTreeOf taken.side text tree
+  pub sense : MakesSense taken.side tree
   pub not_built : taken.IsBuilt tree → ⊥
 
 -- the text is refused at the place, for what these words say, by the first of the stages that refuses it
@@ -62,4 +73,28 @@ pub data IsRefused (taken : Intake) (text : List ℕ) : At → List ℕ → Type
   bad_syntax : (at : At)
       → HasFault taken.side text (BadSyntax at)
       → IsRefused taken text at (codes "bad syntax")
+  no_main : (at : At)
+      → HasNameFault taken.side text (NoMain at)
+      → IsRefused taken text at (codes "no main")
+  reserved : (at : At)
+      → HasNameFault taken.side text (ReservedName at)
+      → IsRefused taken text at (codes "reserved name")
+  output_only : (at : At)
+      → HasNameFault taken.side text (OutputOnly at)
+      → IsRefused taken text at (codes "output only")
+  twice : (at : At)
+      → HasNameFault taken.side text (TwiceDeclared at)
+      → IsRefused taken text at (codes "declared twice")
+  unknown : (at : At)
+      → HasNameFault taken.side text (UnknownName at)
+      → IsRefused taken text at (codes "unknown name")
+  wrong_type : (at : At)
+      → HasNameFault taken.side text (WrongType at)
+      → IsRefused taken text at (codes "wrong type")
+  bad_thread : (at : At)
+      → HasNameFault taken.side text (BadThread at)
+      → IsRefused taken text at (codes "bad thread")
+  recursion : (at : At)
+      → HasNameFault taken.side text (Recursion at)
+      → IsRefused taken text at (codes "recursion")
   not_built : IsNotBuilt taken text → IsRefused taken text start (codes "not built")

@@ -3,6 +3,9 @@ ghost use Rattle.mm_goto.specs.Sourcelike.{IsSourcelike};
 ghost use Rattle.mm_goto.specs.Valid.{IsValid};
 ghost use Rattle.mm_lexer.specs.Tokens.{AreTokens, IsFirstFault};
 ghost use Rattle.mm_lexer.specs.declared.token.Token.{Token as TokenValue};
+ghost use Rattle.mm_tree.specs.declared.item.Tree.{Tree as TreeValue};
+ghost use Rattle.mm_grammar.specs.Meaning.{IsTreeOf};
+ghost use Rattle.mm_names.specs.Programs.{IsRefused as IsNameFault};
 ghost use Rattle.mm_tree.specs.declared.side.Side.TheVariants.{Source};
 ghost use Rattle.mm_parse.specs.Faults.{IsFault};
 ghost use Rattle.mm_run.specs.Program.{IsProgramText, small_source};
@@ -11,9 +14,10 @@ ghost use Rattle.mm_run.specs.Refusal.{Says, Refuses};
 use crate::input::MAX_INPUT;
 use mm_goto::{At, NoMemory, Program};
 use mm_lexer::{LexFault, lex};
+use mm_names::{NameFault, check_owned};
 use mm_parse::{ParseFault, parse};
 use mm_small::{SmallFault, small};
-use mm_tree::Side;
+use mm_tree::{Side, Tree};
 use std::alloc::Global;
 
 /// Why a program is refused, and where.
@@ -69,8 +73,40 @@ fn unparsed(alloc: Global, fault: ParseFault) -> ProgramFault
     }
 }
 
+fn senseless(alloc: Global, fault: NameFault) -> ProgramFault
+    ensures { (text : List ℕ) (tree : TreeValue) → IsTreeOf Source text tree → (fault ≢ NameFault.NoMemory → IsNameFault Source tree fault) → Refuses text result }
+{
+    match fault {
+        NameFault::NoMain(at) => refuse(alloc, at, "no main"),
+        NameFault::ReservedName(at) => refuse(alloc, at, "reserved name"),
+        NameFault::OutputOnly(at) => refuse(alloc, at, "output only"),
+        NameFault::TwiceDeclared(at) => refuse(alloc, at, "declared twice"),
+        NameFault::UnknownName(at) => refuse(alloc, at, "unknown name"),
+        NameFault::WrongType(at) => refuse(alloc, at, "wrong type"),
+        NameFault::BadThread(at) => refuse(alloc, at, "bad thread"),
+        NameFault::Recursion(at) => refuse(alloc, at, "recursion"),
+        NameFault::NoMemory => ProgramFault::NoMemory,
+    }
+}
+
+/// The tree of a text, or why it is refused.
+fn tree_of(alloc: Global, text: &str) -> Result<Tree, ProgramFault>
+    requires { length text.now ≤ MAX_INPUT }
+    ensures tree { IfOk result (λ tree. IsTreeOf Source text.now tree) }
+    ensures refused { IfErr result (λ fault. Refuses text.now fault) }
+{
+    let tokens = match lex(alloc, text) {
+        Ok(tokens) => tokens,
+        Err(fault) => return Err(unlexed(alloc, fault)),
+    };
+    match parse(alloc, text, &tokens, Side::Source) {
+        Ok(tree) => Ok(tree),
+        Err(fault) => Err(unparsed(alloc, fault)),
+    }
+}
+
 /// The goto program of a text, or why it is refused: by the first of these stages that refuses it: tokens, nesting, the
-/// grammar, and what is built.
+/// grammar, names and types, and what is built.
 pub fn program_of(alloc: Global, text: &str) -> Result<Program, ProgramFault>
     requires { length text.now ≤ MAX_INPUT }
     ensures program { IfOk result (λ program. IsProgramText small_source text.now program) }
@@ -78,15 +114,12 @@ pub fn program_of(alloc: Global, text: &str) -> Result<Program, ProgramFault>
     ensures sourcelike { IfOk result IsSourcelike }
     ensures refused { IfErr result (λ fault. Refuses text.now fault) }
 {
-    let tokens = match lex(alloc, text) {
-        Ok(tokens) => tokens,
-        Err(fault) => return Err(unlexed(alloc, fault)),
+    let tree = tree_of(alloc, text)?;
+    let checked = match check_owned(alloc, tree, Side::Source) {
+        Ok(checked) => checked,
+        Err(fault) => return Err(senseless(alloc, fault)),
     };
-    let tree = match parse(alloc, text, &tokens, Side::Source) {
-        Ok(tree) => tree,
-        Err(fault) => return Err(unparsed(alloc, fault)),
-    };
-    match small(alloc, &tree) {
+    match small(alloc, &checked.tree) {
         Ok(program) => Ok(program),
         Err(SmallFault::NotBuilt) => Err(refuse(alloc, At::start(), "not built")),
         Err(SmallFault::NoMemory) => Err(ProgramFault::NoMemory),

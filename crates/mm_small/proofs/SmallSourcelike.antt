@@ -13,7 +13,7 @@ use Rattle.mm_goto.specs.declared.pure.Pure.TheFolds.{fold-Pure}
 use Rattle.mm_goto.specs.declared.pure.Binary.TheVariants as binary
 use Rattle.mm_goto.specs.declared.program.Cell.{Cell}
 use Rattle.mm_goto.specs.declared.program.Instr.{Instr}
-use Rattle.mm_goto.specs.declared.program.Instr.TheVariants.{Load, Store, Jump, Assert, End, Start, Join}
+use Rattle.mm_goto.specs.declared.program.Instr.TheVariants.{Load, Store, Jump, Assert, End, Start}
 use Rattle.mm_goto.specs.declared.program.Target.TheVariants as target
 use Rattle.mm_goto.specs.declared.program.Thread.{Thread}
 use Rattle.mm_goto.specs.Checks.{checked_step, checks_of, timed_step, late_parts, DividesInTime}

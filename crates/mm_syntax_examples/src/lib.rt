@@ -4,6 +4,8 @@
 #[cfg(test)]
 mod expressions;
 #[cfg(test)]
+mod names;
+#[cfg(test)]
 mod programs;
 #[cfg(test)]
 mod tokens;

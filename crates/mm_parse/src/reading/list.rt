@@ -76,6 +76,7 @@ pub fn read_others<'a, P: Part>(
         parts.push(part)?;
         rest = onwards(others);
     }
+    parts.shrink_to_fit();
     Ok((List::new(parts), rest))
 }
 

@@ -201,6 +201,7 @@ pub fn read_body<'a>(
         left -= 1;
         let (next, others) = read_next(alloc, left, depth, rest)?;
         let Some(stmt) = next else {
+            stmts.shrink_to_fit();
             return Ok((stmts, others));
         };
         stmts.push(stmt.into_inner())?;

@@ -25,4 +25,4 @@ loop-behind-preserved g c =
     rw (items, rest) (more_goes _ (others g.P.Part.item m) _ _ c.in_ok-part.part c.in_ok-part.others.now on c.in_ok-part.ensures ∙ c.loop-behind.invariant)
 
 pub returns : goal.returns
-returns g c = sym c.loop-behind.invariant ∙ joined_end _ _ _ _ (others_end g.P.Part.item _ _ c.in_default.ensures) c.new-2.ensures
+returns g c = sym c.loop-behind.invariant ∙ joined_end _ _ _ _ (others_end g.P.Part.item _ _ c.in_default.ensures) (c.new-2.ensures ∙ c.shrink_to_fit.ensures.items)

@@ -29,7 +29,7 @@ read_body-returns-in_err-next t c =
 pub read_body-returns-in_default : goal.read_body-returns-in_default
 read_body-returns-in_default t c =
     let on = body_on (c.loop-left.left - 1) c.loop-left.stmts.items c.loop-left.left c.loop-left.rest.now (omega arith) in
-    sym c.loop-left.invariant ∙ none_next _ (body (c.loop-left.left - 1)) _ _ _ _ on c.in_ok-next.ensures c.in_default.is
+    rw c.shrink_to_fit.ensures.items (sym c.loop-left.invariant ∙ none_next _ (body (c.loop-left.left - 1)) _ _ _ _ on c.in_ok-next.ensures c.in_default.is)
 
 pub read_body-loop-left-preserved : goal.read_body-loop-left-preserved
 read_body-loop-left-preserved t c =

@@ -1,0 +1,12 @@
+pub mod Labelling
+pub mod Tops
+pub mod Lesser
+pub mod LeastOf
+pub mod Noting
+pub mod Marking
+pub mod Gathering
+pub mod Functions
+pub mod RecursiveCalls
+pub mod ThreadUses
+pub mod ProgramFaults
+pub mod Decided

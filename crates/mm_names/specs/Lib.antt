@@ -1,0 +1,9 @@
+pub mod Labels
+pub mod Tops
+pub mod Items
+pub mod Calls
+pub mod reading
+pub mod Threads
+pub mod Programs
+pub mod Least
+pub mod Results

@@ -1,0 +1,11 @@
+pub mod Faults
+pub mod Notes
+pub mod Scopes
+pub mod Operands
+pub mod Expressions
+pub mod Steps
+pub mod Values
+pub mod Parts
+pub mod Declarations
+pub mod Threads
+pub mod Statements
