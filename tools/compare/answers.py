@@ -1,6 +1,7 @@
 """The tool's answer to words and an input, as docs/formats.md, docs/machines.md and docs/profile.md have it."""
 import re
 
+from names import check_names
 from reading import Refused, place_after, read_program
 
 MOST_ENTRIES = 10_000_000
@@ -137,8 +138,10 @@ def small_program(tokens, grammar):
 
 
 def program_of(text, grammar):
+    tokens = read_program(grammar, text)
+    check_names(tokens)
     try:
-        return small_program(read_program(grammar, text), grammar)
+        return small_program(tokens, grammar)
     except NotSmall:
         raise Refused("not built", (1, 1)) from None
 

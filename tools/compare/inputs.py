@@ -1,4 +1,6 @@
-"""Random words and inputs: texts near the grammar, small programs in many spellings, and schedules near theirs."""
+"""Random words and inputs: texts near the grammar, small programs in many spellings, programs in which most
+names and types are right, and schedules near theirs."""
+from programs import Programs
 
 NAMES = ["x", "y", "a", "p", "main", "f", "t", "nondet_int", "wm_x", "é", "_", "x1", "int1"]
 NUMBERS = ["0", "1", "2147483647", "0x1F", "017", "3", "00", "0X0"]
@@ -12,7 +14,7 @@ WORDS = ["instrument", "replay", "--mm", "tso", "pso", "sc", "--bound", "0", "1"
 
 class Inputs:
     def __init__(self, random, grammar):
-        self.random, self.grammar = random, grammar
+        self.random, self.grammar, self.programs = random, grammar, Programs(random)
         self.depths = {name: 10**6 for name in grammar.rules}
         while any(self.is_less_deep(name) for name in grammar.rules):
             pass
@@ -63,6 +65,7 @@ class Inputs:
     def near_grammar(self):
         spellings = self.derived("program", self.random.choice([8, 12, 16, 20, 26]))[:250]
         text = self.spelled(self.changed(spellings, lambda: self.spelling(self.random.choice(self.terminals))))
+        text += self.random.choice(["", "int main ( ) { }"])
         if self.random.random() < 0.25:
             text = "".join(self.changed(text, lambda: self.random.choice(PIECES)))
         return text
@@ -71,7 +74,7 @@ class Inputs:
         n = self.random.choice([198, 199, 200, 201, 202])
         inner = [("{" * n, "}" * n), ("x = " + "(" * n + "1" + ")" * n, ";"), ("x = " + "- " * n, "1;")]
         inner += [("if (1) ; else " * n, ";"), ("for (;;) " * n, ";"), ("x = " + "1 + " * (n // 2), "1;")]
-        return "int main(void) { %s%s }" % self.random.choice(inner)
+        return "int x; int main(void) { %s%s }" % self.random.choice(inner)
 
     def wrapped(self, text):
         while self.random.random() < 0.1:
@@ -91,6 +94,9 @@ class Inputs:
         if self.random.random() < 0.15:
             spellings = self.changed(spellings, lambda: self.spelling(self.random.choice(self.terminals)))
         return self.spelled(spellings)
+
+    def named(self):
+        return self.spelled(self.programs.one())
 
     def line(self):
         thread = self.random.choice(["0"] * 9 + ["1", "4294967295", "4294967296", "00", "-1"])
@@ -116,7 +122,7 @@ class Inputs:
     def one(self):
         """Words and an input."""
         words = self.words()
-        kinds = [self.near_grammar] * 8 + [self.small] * 8 + [self.deep]
+        kinds = [self.near_grammar] * 8 + [self.small] * 8 + [self.named] * 12 + [self.deep]
         text = self.random.choice(kinds)()
         if words[0] != "instrument" or self.random.random() < 0.05:
             text += self.random.choice(["\n%%\n"] * 9 + ["%%\n", "\n%%"]) + self.schedule()

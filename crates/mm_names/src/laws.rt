@@ -7,7 +7,6 @@ ghost use Rattle.mm_names.specs.declared.refusal.NameFault.{NameFault};
 ghost use Rattle.mm_names.specs.Programs.{IsAccepted, IsRefused};
 
 /// Each program is accepted or refused, on each side.
-
 pub fn each_program_is_accepted_or_refused()
     ensures { (side : Side) (tree : Tree) → IsAccepted side tree ⊎ ((fault : NameFault) × IsRefused side tree fault) }
 {}

@@ -1,3 +1,5 @@
+pub mod Declared
+pub mod LocalNames
 pub mod Numerals
 pub mod Seen
 pub mod Steps

@@ -1,5 +1,5 @@
 -- Scopes (ISO C, 6.2.1): the names that are declared so far. An inner name hides an outer one.
-use Rattle.std.specs.Prelude.{ℕ, Bool, true, false, List, find, drop, reverse, Option, Some, None}
+use Rattle.std.specs.Prelude.{◌≡◌, ℕ, Bool, true, false, List, find, drop, reverse, Option, Some, None, is_some}
 use Rattle.std.specs.List.{list_any}
 use Rattle.std.specs.Map.{lookup}
 use Rattle.indexmap.specs.IndexMap.{insert_entry}
@@ -40,15 +40,24 @@ pub record Names : Type 0 where
 abbrev pub is_named : Ident → Named → Bool
 is_named x n = bytes_eq n.name x
 
-abbrev pub local_meaning : Names → Ident → Option Meaning
-local_meaning names x = option_map (λ n. n.meaning) (find (is_named x) (reverse names.locals))
+-- what the newest of this name stands for
+abbrev pub found : List Named → Ident → Option Meaning
+found locals x = option_map (λ n. n.meaning) (find (is_named x) (reverse locals))
 
 abbrev pub meaning_of : Names → Ident → Option Meaning
-meaning_of names x = option_or (local_meaning names x) (meaning_in names.globals x)
+meaning_of names x = option_or (found names.locals x) (meaning_in names.globals x)
+
+-- the name stands behind so many
+abbrev pub stands : List Named → ℕ → Ident → Bool
+stands locals from x = list_any (is_named x) (drop from locals)
 
 -- the name stands already in the block that was opened behind so many local names
 abbrev pub is_taken : Names → ℕ → Ident → Bool
-is_taken names from x = list_any (is_named x) (drop from names.locals)
+is_taken names = stands names.locals
+
+-- each name stands in the table too
+pub record AreSeen (table : Table) (locals : List Named) : Type 0 where
+  pub each : (x : Ident) → list_any (is_named x) locals ≡ true → is_some (meaning_in table x) ≡ true
 
 -- a global is declared, and not merely known ahead
 abbrev pub is_declared : Option Meaning → Bool

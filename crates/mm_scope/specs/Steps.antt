@@ -71,9 +71,13 @@ reserved side at x = if is_reserved_on side x then refusal ReservedName at ∷ [
 unfoldable pub adding : Ident → Meaning → Step
 adding x m names = record { declared = named_as x m ∷ []; notes = [] }
 
--- a name of the scope that was opened behind so many names, with its meaning. Of two in one scope the first counts.
-unfoldable pub declaring : ℕ → At → Ident → Meaning → Step
-declaring from at x m names =
-    if is_taken names from x
+-- a name with its meaning, where it is not taken
+unfoldable pub declaring_where : Bool → At → Ident → Meaning → Step
+declaring_where taken at x m names =
+    if taken
     then record { declared = []; notes = refusal TwiceDeclared at ∷ [] }
     else record { declared = named_as x m ∷ []; notes = [] }
+
+-- a name of the scope that was opened behind so many names, with its meaning. Of two in one scope the first counts.
+unfoldable pub declaring : ℕ → At → Ident → Meaning → Step
+declaring from at x m names = declaring_where (is_taken names from x) at x m names

@@ -59,7 +59,8 @@ fn note_initialiser<'a>(
     Ok(())
 }
 
-#[tactic(auto, unfolding(crate::specs::Declarations::declared_local), using(crate::proofs::Steps::in_steps))]
+// Whether the name is taken is asked first, as in its initialiser it is a name.
+#[tactic(auto, using(crate::proofs::Declared::in_declarations))]
 fn declare_local<'a>(
     walk: &mut Walk<'a>,
     items: &[Item],
@@ -68,10 +69,11 @@ fn declare_local<'a>(
 ) -> Result<(), NoMemory>
     ensures { OnOk result (walk.new ≡ after (declared_local items.now around local.now) walk.old) }
 {
+    let taken = walk.scope.is_taken(around.from, &local.name);
     note_initialiser(walk, items, around, local)?;
-    declare_name(
-        walk,
-        around,
+    walk.reserve(around.side, local.at, &local.name);
+    walk.declare_where(
+        taken,
         local.at,
         &local.name,
         meaning_of_local(local.pointer),

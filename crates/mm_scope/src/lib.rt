@@ -6,6 +6,7 @@ mod assertion;
 mod declare;
 mod expression;
 mod fault;
+mod locals;
 mod notes;
 mod operand;
 mod part;

@@ -1,31 +1,17 @@
 ghost use Rattle.std.specs.Prelude.{◌≡◌, ◌≤◌, ◌++◌, ◌∷◌, [], OnOk, IfOk, true, false, length, take};
-ghost use Rattle.mm_scope.specs.Scopes.{meaning_of, local_meaning, is_taken, meaning_in, is_declared, with_name, named_as};
+ghost use Rattle.mm_scope.specs.Scopes.{meaning_of, is_taken, meaning_in, is_declared, with_name, named_as};
 
+use crate::locals::Locals;
 use crate::table::{Meaning, Table};
 use mm_goto::{Ident, NoMemory};
 use std::alloc::Global;
 use std::marker::Model;
 
-/// A local name.
-#[derive(Drop)]
-pub struct Entry<'a> {
-    name: &'a Ident,
-    meaning: Meaning,
-}
-
-impl<'a> Model for Entry<'a> {
-    ghost use Rattle.mm_scope.specs.Scopes.{Named};
-
-    ghost Value = { Named };
-
-    ghost view = { λ e. record { name = e.name.now; meaning = e.meaning } };
-}
-
 /// The names that are declared so far.
 #[derive(Drop)]
 pub struct Scope<'a> {
     globals: Table<'a>,
-    locals: Vec<Entry<'a>>,
+    locals: Locals<'a>,
 }
 
 impl<'a> Model for Scope<'a> {
@@ -33,7 +19,7 @@ impl<'a> Model for Scope<'a> {
 
     ghost Value = { Names };
 
-    ghost view = { λ s. record { globals = s.globals; locals = s.locals.items } };
+    ghost view = { λ s. record { globals = s.globals; locals = s.locals } };
 }
 
 impl<'a> Scope<'a> {
@@ -43,26 +29,15 @@ impl<'a> Scope<'a> {
     {
         Scope {
             globals,
-            locals: Vec::new(alloc),
+            locals: Locals::new(alloc),
         }
-    }
-
-    fn local_meaning(&self, name: &Ident) -> Option<Meaning>
-        ensures { result ≡ local_meaning self.now name.now }
-    {
-        let found = self
-            .locals
-            .iter()
-            .rev()
-            .find(|entry| entry.name.text() == name.text())?;
-        Some(found.meaning)
     }
 
     /// What the name stands for, if it stands for anything.
     pub fn meaning_of(&self, name: &Ident) -> Option<Meaning>
         ensures { result ≡ meaning_of self.now name.now }
     {
-        match self.local_meaning(name) {
+        match self.locals.meaning_of(name) {
             Some(meaning) => Some(meaning),
             None => self.globals.meaning_of(name.text()),
         }
@@ -87,18 +62,14 @@ impl<'a> Scope<'a> {
     pub fn is_taken(&self, from: usize, name: &Ident) -> bool
         ensures { result ≡ is_taken self.now from name.now }
     {
-        self.locals
-            .iter()
-            .skip(from)
-            .any(|entry| entry.name.text() == name.text())
+        self.locals.stands(from, name)
     }
 
     /// Adds a local name.
     pub fn add(&mut self, name: &'a Ident, meaning: Meaning) -> Result<(), NoMemory>
         ensures { OnOk result (self.new ≡ record self.old { locals = self.old.locals ++ named_as name.now meaning ∷ [] }) }
     {
-        self.locals.push(Entry { name, meaning })?;
-        Ok(())
+        self.locals.add(name, meaning)
     }
 
     /// How many local names there are.
@@ -112,6 +83,6 @@ impl<'a> Scope<'a> {
     pub fn close(&mut self, len: usize)
         ensures { self.new ≡ record self.old { locals = take len self.old.locals } }
     {
-        self.locals.truncate(len);
+        self.locals.close(len);
     }
 }

@@ -1,4 +1,4 @@
-ghost use Rattle.std.specs.Prelude.{◌≡◌, [], OnOk};
+ghost use Rattle.std.specs.Prelude.{◌≡◌, [], OnOk, OnErr};
 ghost use Rattle.mm_scope.specs.Scopes.{meaning_in, with_name};
 
 use indexmap::IndexMap;
@@ -66,7 +66,8 @@ impl<'a> Table<'a> {
 
     /// Gives the name this meaning.
     pub fn set(&mut self, name: &'a str, meaning: Meaning) -> Result<(), NoMemory>
-        ensures { OnOk result (self.new ≡ with_name self.old name.entry.now meaning) }
+        ensures set { OnOk result (self.new ≡ with_name self.old name.entry.now meaning) }
+        ensures same { OnErr result (self.new ≡ self.old) }
     {
         self.map.insert(name, meaning)?;
         Ok(())

@@ -1,5 +1,5 @@
 ghost use Rattle.std.specs.Prelude.{◌≡◌, OnOk, take};
-ghost use Rattle.mm_scope.specs.Steps.{after, declaring, reserved, noting, adding, is_reserved_on};
+ghost use Rattle.mm_scope.specs.Steps.{after, declaring, declaring_where, reserved, noting, adding, is_reserved_on};
 
 use crate::fault::Rule;
 use crate::notes::Notes;
@@ -37,6 +37,25 @@ impl<'a> Walk<'a> {
         }
     }
 
+    /// Declares a local name, where it is not taken.
+    #[tactic(auto, unfolding(crate::specs::Steps::after, crate::specs::Steps::declaring_where))]
+    pub fn declare_where(
+        &mut self,
+        taken: bool,
+        at: At,
+        name: &'a Ident,
+        meaning: Meaning,
+    ) -> Result<(), NoMemory>
+        ensures { OnOk result (self.new ≡ after (declaring_where taken at name.now meaning) self.old) }
+    {
+        if taken {
+            self.notes.refuse(Rule::TwiceDeclared, at);
+        } else {
+            self.scope.add(name, meaning)?;
+        }
+        Ok(())
+    }
+
     /// Declares a local name.
     #[tactic(auto, unfolding(crate::specs::Steps::after, crate::specs::Steps::declaring))]
     pub fn declare(
@@ -48,12 +67,8 @@ impl<'a> Walk<'a> {
     ) -> Result<(), NoMemory>
         ensures { OnOk result (self.new ≡ after (declaring from at name.now meaning) self.old) }
     {
-        if self.scope.is_taken(from, name) {
-            self.notes.refuse(Rule::TwiceDeclared, at);
-        } else {
-            self.scope.add(name, meaning)?;
-        }
-        Ok(())
+        let taken = self.scope.is_taken(from, name);
+        self.declare_where(taken, at, name, meaning)
     }
 
     /// Adds a local name.
