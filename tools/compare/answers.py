@@ -1,8 +1,11 @@
 """The tool's answer to words and an input, as docs/formats.md, docs/machines.md and docs/profile.md have it."""
 import re
 
+from flattening import check_limits, goto_program
+from machines import Machine
 from names import check_names
 from reading import Refused, place_after, read_program
+from trees import Tree
 
 MOST_ENTRIES = 10_000_000
 
@@ -137,9 +140,7 @@ def small_program(tokens, grammar):
     return program
 
 
-def program_of(text, grammar):
-    tokens = read_program(grammar, text)
-    check_names(tokens)
+def woven_program(tokens, grammar):
     try:
         return small_program(tokens, grammar)
     except NotSmall:
@@ -225,57 +226,7 @@ def schedule_of(text):
         entries.append((entry, times))
 
 
-# ---- the machine of one thread
-
-class Machine:
-    def __init__(self, program, model, bound):
-        self.program, self.model, self.bound = program, model, bound
-        self.memory, self.locals = [0] * len(program.variables), [0] * program.locals
-        self.place, self.ended, self.verdict, self.pending = 0, False, None, []
-
-    def read(self, cell):
-        mine = [value for c, value in self.pending if c == cell]
-        return mine[-1] if mine else self.memory[cell]
-
-    def store(self, cell, value):
-        if self.model == "sc":
-            self.memory[cell] = value
-            return True
-        held = [c for c, _ in self.pending if self.model == "tso" or c == cell]
-        if len(held) >= self.bound:
-            return False
-        self.pending.append((cell, value))
-        return True
-
-    def flush(self, thread, *cell):
-        if thread or self.model == "sc" or len(cell) != (self.model == "pso"):
-            return False
-        found = [k for k, (c, _) in enumerate(self.pending) if not cell or c == cell[0]]
-        if found:
-            to, value = self.pending.pop(found[0])
-            self.memory[to] = value
-        return bool(found)
-
-    def step(self, thread):
-        if thread or self.ended or self.verdict is not None:
-            return False
-        kind, *parts = self.program.code[self.place]
-        if kind == "store":
-            source, value = parts[1]
-            if not self.store(parts[0], self.locals[value] if source == "local" else value):
-                return False
-        if kind == "load":
-            self.locals[parts[0]] = self.read(parts[1])
-        if kind == "assert" and self.locals[parts[0]] != parts[1]:
-            self.verdict = parts[2]
-        self.ended = kind == "end"
-        self.place = parts[0] if kind == "jump" else self.place + (not self.ended)
-        return True
-
-    def take(self, entry):
-        kind, *parts = entry
-        return kind != "in" and (self.step(*parts) if kind == "step" else self.flush(*parts))
-
+# ---- a run
 
 def replayed(machine, schedule):
     taken = 0
@@ -299,13 +250,22 @@ def settings(words):
     return form.group(1), form.group(2), int(form.group(3))
 
 
+def accepted(text, grammar):
+    """The tokens and the tree of a program that is not refused."""
+    tokens = read_program(grammar, text)
+    check_names(tokens)
+    tree = Tree(tokens)
+    check_limits(tree)
+    return tokens, tree
+
+
 def answer_to_text(command, model, bound, text, grammar):
     if command == "instrument":
-        return 0, woven_text(program_of(text, grammar), bound)
+        return 0, woven_text(woven_program(accepted(text, grammar)[0], grammar), bound)
     parting = re.search(r"^%%\n", text, re.M)
     if not parting:
         raise Refused("missing part", place_after(text))
-    program = program_of(text[: parting.start()], grammar)
+    program = goto_program(accepted(text[: parting.start()], grammar)[1])
     try:
         return replayed(Machine(program, model, bound), schedule_of(text[parting.end() :]))
     except BadLine as bad:

@@ -1,11 +1,20 @@
 """Random words and inputs: texts near the grammar, small programs in many spellings, programs in which most
-names and types are right, and schedules near theirs."""
+names and types are right, programs that run, programs near the limits, and schedules for them."""
+from answers import settings
+from flattening import check_limits, goto_program
+from large import Large
+from machines import Machine
+from names import check_names
 from programs import Programs
+from reading import Refused, tokens_of
+from running import Running, run_of
+from trees import Tree
 
 NAMES = ["x", "y", "a", "p", "main", "f", "t", "nondet_int", "wm_x", "é", "_", "x1", "int1"]
 NUMBERS = ["0", "1", "2147483647", "0x1F", "017", "3", "00", "0X0"]
 TEXTS = ['"assertion 1"', '""', '"a b"']
-GAPS = [" ", " ", " ", "\n", "\t", "  ", "/* c */", " // c\n", "\n#include <x>\n", "\r\n", "/**/"]
+BLANKS = [" ", " ", " ", "\n", "\t", "  ", " // c\n", "\n#include <x>\n", "\r\n"]
+GAPS = BLANKS + ["/* c */", "/**/"]
 PIECES = ['"', "\\", "#", "@", "$", "\0", "\v", "é", "0", "9", "08", "0x", "99999999999", "/*", "*/", "//", "\n", ".", "->"]
 PIECES += ["'", "\u00a0", "\ufeff", "/", "1.5", "_", "# include", "x#include", "ƒ", "٣", "%%\n", "\n%%\n", "%"]
 BROKEN = [b"\xff", b"\xc3", b"\xe2\x82", b"\xc0\x80", b"\xed\xa0\x80", b"\x80"]
@@ -15,6 +24,7 @@ WORDS = ["instrument", "replay", "--mm", "tso", "pso", "sc", "--bound", "0", "1"
 class Inputs:
     def __init__(self, random, grammar):
         self.random, self.grammar, self.programs = random, grammar, Programs(random)
+        self.runs, self.large = Running(random), Large(random)
         self.depths = {name: 10**6 for name in grammar.rules}
         while any(self.is_less_deep(name) for name in grammar.rules):
             pass
@@ -60,7 +70,7 @@ class Inputs:
         return items
 
     def spelled(self, spellings):
-        return "".join(spelling + self.random.choice(GAPS) for spelling in spellings)
+        return "".join(spelling + self.random.choice(BLANKS if spelling == "/" else GAPS) for spelling in spellings)
 
     def near_grammar(self):
         spellings = self.derived("program", self.random.choice([8, 12, 16, 20, 26]))[:250]
@@ -100,17 +110,43 @@ class Inputs:
 
     def line(self):
         thread = self.random.choice(["0"] * 9 + ["1", "4294967295", "4294967296", "00", "-1"])
-        times = self.random.choice(["1", "2", "3", "5", "9", "0", "10000000", "10000001"])
+        times = self.random.choice(["1", "2", "3", "5", "9", "0"] * 5 + ["10000000", "10000001"])
         value = self.random.choice(["0", "-1", "-0", "2147483647", "-2147483648", "2147483648", "01", "x"])
         forms = ["step " + thread, "step " + thread, "steps %s %s" % (thread, times), "flush " + thread]
         forms += ["flush %s %s" % (thread, self.random.choice("0123")), "in %s %s" % (thread, value)]
         return self.random.choice(forms + (["", "end", "step", " step 0", "step 0 "] if self.random.random() < 0.1 else []))
 
-    def schedule(self):
-        lines = ["schedule 1"] + [self.line() for _ in range(self.random.randrange(12))] + ["end"]
-        if self.random.random() < 0.2:
+    def schedule(self, lines, changes):
+        """The lines as a schedule, with changes so often."""
+        lines = ["schedule 1", *lines, "end"]
+        if self.random.random() < changes:
             lines = self.changed(lines, self.line)
-        return "\n".join(lines) + ("" if self.random.random() < 0.05 else "\n")
+        return "\n".join(lines) + ("" if self.random.random() < changes / 4 else "\n")
+
+    def lines(self):
+        return [self.line() for _ in range(self.random.randrange(12))]
+
+    def other(self):
+        """A text of another kind, and what stands behind it in an input of replay."""
+        kinds = [self.near_grammar] * 8 + [self.small] * 8 + [self.named] * 12 + [self.deep]
+        parting = self.random.choice(["\n%%\n"] * 9 + ["%%\n", "\n%%"])
+        return self.random.choice(kinds)(), parting + self.schedule(self.lines(), 0.2)
+
+    def running(self, model, bound):
+        """A program that is not refused, most often, and a schedule that runs."""
+        spellings = self.runs.program() if self.random.random() < 0.95 else self.large.one()
+        text, lines = self.spelled(spellings), self.lines()
+        try:
+            tokens = tokens_of(text)
+            check_names(tokens)
+            tree = Tree(tokens)
+            check_limits(tree)
+            lines = run_of(self.random, Machine(goto_program(tree), model, bound))
+        except Refused:
+            pass
+        if self.random.random() < 0.1:
+            text = self.spelled(self.runs.swapped(spellings))
+        return text, "\n%%\n" + self.schedule(lines, 0.05)
 
     def words(self):
         bound = str(self.random.randrange(1, 9))
@@ -122,10 +158,11 @@ class Inputs:
     def one(self):
         """Words and an input."""
         words = self.words()
-        kinds = [self.near_grammar] * 8 + [self.small] * 8 + [self.named] * 12 + [self.deep]
-        text = self.random.choice(kinds)()
+        asked = settings(words)
+        runs = asked and self.random.random() < (0.1 if asked[0] == "instrument" else 0.6)
+        text, behind = self.running(*asked[1:]) if runs else self.other()
         if words[0] != "instrument" or self.random.random() < 0.05:
-            text += self.random.choice(["\n%%\n"] * 9 + ["%%\n", "\n%%"]) + self.schedule()
+            text += behind
         data = text.encode()
         if self.random.random() < 0.02:
             k = self.random.randrange(len(data) + 1)

@@ -17,8 +17,11 @@ class Programs:
     """One text for each call of `one`; `slip` is how often a name or a type is another than it should be, `theme` what is so
     more often."""
 
+    # how often a declared name has a value, and how often the address of a local is taken
+    valued, odd_addresses = {"int": 0.7, "pointer": 0.7}, 0.03
+
     def __init__(self, random):
-        self.random = random
+        self.random, self.slip, self.theme = random, 0, ""
 
     def often(self, chance):
         return self.random.random() < chance
@@ -51,6 +54,16 @@ class Programs:
 
     # ---- expressions
 
+    def number(self):
+        return self.random.choice(NUMBERS)
+
+    def element(self, fuel):
+        return "%s [ %s ]" % (self.name("array"), self.int_of(fuel))
+
+    def operand(self, mark, fuel):
+        """What stands behind an operator."""
+        return self.int_of(fuel)
+
     def int_or_pointer(self, fuel):
         return self.pointer_of(fuel) if self.often(0.3) else self.int_of(fuel)
 
@@ -59,11 +72,11 @@ class Programs:
             return self.pointer_of(fuel - 1)
         shape = self.random.randrange(12 if fuel > 0 else 4)
         if shape < 2 or shape < 4 and not self.has("int"):
-            return self.random.choice(NUMBERS)
+            return self.number()
         if shape < 4:
             return self.name("int")
         if shape == 4 and self.has("array"):
-            return "%s [ %s ]" % (self.name("array"), self.int_of(fuel - 1))
+            return self.element(fuel - 1)
         if shape == 5:
             return self.target(fuel)
         if shape == 6:
@@ -72,7 +85,7 @@ class Programs:
             return "%s ? %s : %s" % (self.cond(fuel - 1), self.int_of(fuel - 1), self.int_of(fuel - 1))
         if shape == 8:
             return self.random.choice("-+~") + " ( %s )" % self.int_of(fuel - 1)
-        return self.cond(fuel) if shape == 9 else self.arithmetic(fuel)
+        return self.truth(fuel) if shape == 9 else self.arithmetic(fuel)
 
     def target(self, fuel):
         if self.has("pointer") and self.often(0.6):
@@ -80,9 +93,13 @@ class Programs:
         return "* ( %s )" % self.pointer_of(fuel - 1)
 
     def arithmetic(self, fuel):
-        parts = [self.int_of(fuel - 2), self.random.choice(BETWEEN), self.int_of(fuel - 2)]
+        mark = self.random.choice(BETWEEN)
+        parts = [self.int_of(fuel - 2), mark, self.operand(mark, fuel - 2)]
         parts = ["( %s )" % part if "?" in part else part for part in parts]
         return " ".join(parts) if self.often(0.5) else "( %s )" % " ".join(parts)
+
+    def truth(self, fuel):
+        return self.cond(fuel)
 
     def cond(self, fuel):
         """An int or a pointer, most often compared."""
@@ -102,9 +119,9 @@ class Programs:
         if shape < 2 and self.has("pointer"):
             return self.name("pointer")
         if shape == 2 and self.seen("int", True):
-            return "& " + (self.name("int") if self.often(0.03) else self.random.choice(self.seen("int", True)))
+            return "& " + (self.name("int") if self.often(self.odd_addresses) else self.random.choice(self.seen("int", True)))
         if shape == 3 and self.has("array"):
-            return "& %s [ %s ]" % (self.name("array"), self.int_of(fuel - 1))
+            return "& " + self.element(fuel - 1)
         if shape == 4 and fuel > 0:
             arms = [self.random.choice(["0", self.pointer_of(fuel - 1)]), self.pointer_of(fuel - 1)]
             return "( %s ? %s : %s )" % (self.cond(fuel - 1), *arms)
@@ -142,7 +159,7 @@ class Programs:
     def left(self, kind):
         shape = self.random.randrange(4)
         if kind == "int" and shape == 0 and self.has("array"):
-            return "%s [ %s ]" % (self.name("array"), self.int_of(1))
+            return self.element(1)
         if kind == "int" and (shape == 1 or not self.has("int")):
             return ("( %s )" if self.often(0.2) else "%s") % self.target(2)
         return ("( %s )" if self.often(0.1) else "%s") % self.name(kind)
@@ -151,7 +168,8 @@ class Programs:
         kind = "pointer" if self.has("pointer") and self.often(0.3) else "int"
         shape = self.random.randrange(5)
         if kind == "int" and shape == 0 or self.slips():
-            return "%s %s %s" % (self.left(kind), self.random.choice(UPDATES), self.int_of(2))
+            mark = self.random.choice(UPDATES)
+            return "%s %s %s" % (self.left(kind), mark, self.operand(mark, 2))
         if kind == "int" and shape == 1:
             word = self.random.choice(["++", "--"])
             return self.random.choice([self.left(kind) + " " + word, word + " " + self.left(kind)])
@@ -168,7 +186,8 @@ class Programs:
             kind = self.random.choice(["int", "int", "pointer"])
             name = self.new_name(kind)
             self.scopes.append({} if self.slips() else {name: "hidden"})
-            items.append(("* " if kind == "pointer" else "") + name + (" = " + self.value(kind) if self.often(0.7) else ""))
+            value = " = " + self.value(kind) if self.often(self.valued[kind]) else ""
+            items.append(("* " if kind == "pointer" else "") + name + value)
             self.scopes.pop()
             self.scopes[-1][name] = kind
         return self.random.choice(["", "volatile "]) + "int %s ;" % " , ".join(items)
@@ -195,10 +214,13 @@ class Programs:
         if shape == 11:
             return self.returned()
         if shape == 12:
-            return self.random.choice(CHECKS) % self.cond(2)
+            return self.check()
         if shape == 13:
             return self.special()
         return self.update() + " ;" if shape == 14 else ";"
+
+    def check(self):
+        return self.random.choice(CHECKS) % self.cond(2)
 
     def special(self):
         if self.goes("labels"):
@@ -279,15 +301,18 @@ class Programs:
         if gives == "thread":
             heads = self.random.choice([[], ["void"], ["void *"], ["void * arg"]])
             self.scopes[-1]["arg"] = "hidden"
-        parts = self.parts(self.random.randrange(6), 3)
-        if current < 0:
-            parts += ["pthread_t t ;"] if self.often(0.3) and "t" not in self.scopes[-1] else []
-            self.scopes[-1].update({"t": "thread"} if parts and parts[-1] == "pthread_t t ;" else {})
-            parts += self.threads() + [self.statement(2, False)] + self.random.choice([[], ["return 0 ;"]])
-        elif self.often(0.6):
-            parts.append(self.returned())
+        parts = self.main_parts() if current < 0 else self.function_parts()
         self.scopes = self.scopes[:1]
         return "( %s ) { %s }" % (" , ".join(heads), " ".join(parts))
+
+    def main_parts(self):
+        parts = self.parts(self.random.randrange(6), 3)
+        parts += ["pthread_t t ;"] if self.often(0.3) and "t" not in self.scopes[-1] else []
+        self.scopes[-1].update({"t": "thread"} if parts and parts[-1] == "pthread_t t ;" else {})
+        return parts + self.threads() + [self.statement(2, False)] + self.random.choice([[], ["return 0 ;"]])
+
+    def function_parts(self):
+        return self.parts(self.random.randrange(6), 3) + ([self.returned()] if self.often(0.6) else [])
 
     def function(self, which):
         kind, k = which
@@ -348,18 +373,24 @@ class Programs:
             words[k] = self.random.choice(SWAPS.get(words[k], ANY))
         return words
 
-    def one(self):
-        """The spellings of a program."""
-        self.slip = self.random.choice([0, 0, 0.003, 0.01, 0.01, 0.03, 0.15])
-        self.theme = self.random.choice(["", "calls", "threads", "labels", "locks", "starts"])
+    def first_globals(self):
+        return ["int %s , * %s ;" % (self.global_name("int"), self.global_name("pointer"))] if self.often(0.9) else []
+
+    def program(self):
+        """The spellings of a program, in which nothing changes places."""
         self.signatures()
         self.scopes, self.lengths = [dict.fromkeys([f[0] for f in self.functions] + self.runs + ["main"], "function")], {}
         items = [("main", 0)] + [("function", k) for k in range(len(self.functions))]
         items += [("runs", k) for k in range(len(self.runs))]
         self.random.shuffle(items)
-        texts = ["int %s , * %s ;" % (self.global_name("int"), self.global_name("pointer"))] if self.often(0.9) else []
-        texts += [self.global_item() for _ in range(self.random.randrange(5))]
+        texts = self.first_globals() + [self.global_item() for _ in range(self.random.randrange(5))]
         for which in items:
             texts += [self.function(which)] + ([self.global_item()] if self.often(0.2) else [])
-        words = " ".join(texts).split()
+        return " ".join(texts).split()
+
+    def one(self):
+        """The spellings of a program."""
+        self.slip = self.random.choice([0, 0, 0.003, 0.01, 0.01, 0.03, 0.15])
+        self.theme = self.random.choice(["", "calls", "threads", "labels", "locks", "starts"])
+        words = self.program()
         return self.swapped(words) if self.often(0.25) else words

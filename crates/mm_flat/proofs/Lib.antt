@@ -1,4 +1,8 @@
-pub mod Codes
-pub mod Programs
-mod Shapes
-mod Values
+pub mod Faults
+pub mod Limiting
+pub mod Marks
+pub mod Nests
+pub mod Order
+pub mod Settles
+pub mod Tables
+pub mod Threads

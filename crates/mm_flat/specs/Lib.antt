@@ -1,1 +1,1 @@
-pub mod Flattening
+pub mod reading

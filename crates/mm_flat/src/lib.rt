@@ -1,4 +1,11 @@
-//! What a program's tree means: the goto program that it is flattened to.
+//! Flattening: from the tree of a program's text to its goto program.
 #![tactic(auto)]
 
-pub mod laws;
+mod cells;
+mod gather;
+mod limits;
+mod program;
+mod settle;
+
+pub use mm_flow::fault::{FlatFault, Limit};
+pub use program::flatten;

@@ -11,8 +11,7 @@ use Rattle.mm_goto.specs.declared.program.Thread.{Thread}
 use Rattle.mm_goto.specs.Names.{IsDeclarable}
 use Rattle.mm_tree.specs.declared.stmt.Stmt.{Stmt}
 use Rattle.mm_tree.specs.declared.side.Side.TheVariants.{Output}
-use Rattle.mm_flat.specs.Flattening.{Placed, placed, Named, Known, AreCode}
-use Rattle.mm_flat.proofs.Codes.{around}
+use Rattle.mm_small_code.specs.reading.Flattening.{Placed, placed, Named, Known, AreCode, around}
 use Rattle.mm_parse_expr.specs.declared.symbol.Symbol.TheVariants as symbol
 use Rattle.mm_parse_expr.specs.declared.terminal.Terminal.{Terminal}
 use Rattle.mm_parse_expr.proofs.WordNames.{name_symbol}

@@ -14,8 +14,7 @@ use Rattle.mm_tree.specs.declared.item.Item.{Item}
 use Rattle.mm_tree.specs.declared.item.Item.TheVariants as item
 use Rattle.mm_tree.specs.declared.side.Side.TheVariants.{Output}
 use Rattle.mm_tree.specs.Trees as trees
-use Rattle.mm_flat.specs.Flattening.{nothing_known, AreCode, int_cell, AreVariables, AreCells, main_item, IsMain, placed}
-use Rattle.mm_flat.proofs.Codes.{around}
+use Rattle.mm_small_code.specs.reading.Flattening.{nothing_known, AreCode, int_cell, AreVariables, AreCells, main_item, IsMain, placed, around}
 use Rattle.mm_parse_expr.specs.declared.symbol.Keyword.TheVariants as reserved
 use Rattle.mm_parse_expr.specs.declared.symbol.Symbol.TheVariants as symbol
 use Rattle.mm_parse_expr.specs.declared.terminal.Terminal.{Terminal}

@@ -8,4 +8,3 @@ mod Says
 mod Signs
 mod Statements
 pub mod Whole
-pub mod FromSmall

@@ -10,7 +10,7 @@ use Rattle.std.proofs.lemmas.Slice.Eq.{bytes_eq-Decides}
 use Rattle.mm_goto.specs.declared.ident.Ident.{Ident}
 use Rattle.mm_goto.specs.declared.program.Cell.{Cell}
 use Rattle.mm_goto.specs.declared.program.Instr.{Instr}
-use Rattle.mm_flat.specs.Flattening.{Named, numbered, number_of, cell_named}
+use Rattle.mm_small_code.specs.reading.Flattening.{Named, numbered, number_of, cell_named}
 use Rattle.mm_print.specs.SmallText.{local_text, label_text}
 use Rattle.mm_print.specs.Woven.{size}
 

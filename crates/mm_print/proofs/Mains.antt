@@ -9,8 +9,8 @@ use Rattle.mm_goto.specs.declared.program.Instr.{Instr}
 use Rattle.mm_goto.specs.declared.program.Instr.TheVariants as instr
 use Rattle.mm_goto.specs.declared.program.Thread.{Thread}
 use Rattle.mm_goto.specs.Names.{IsDeclarable}
-use Rattle.mm_flat.specs.Flattening.{placed, Named, number_of, Known, nothing_known, with_local, AreDeclared, IsCode, AreCode}
-use Rattle.mm_flat.specs.Flattening as flat
+use Rattle.mm_small_code.specs.reading.Flattening.{placed, Named, number_of, Known, nothing_known, with_local, AreDeclared, IsCode, AreCode}
+use Rattle.mm_small_code.specs.reading.Flattening as flat
 use Rattle.mm_parse_expr.specs.declared.symbol.Keyword.TheVariants as reserved
 use Rattle.mm_parse_expr.specs.declared.symbol.Symbol.TheVariants as symbol
 use Rattle.mm_parse_expr.specs.Symbols.{word_symbol}

@@ -13,7 +13,7 @@ use Rattle.mm_goto.specs.Terms.{constant, the_local, combined}
 use Rattle.mm_goto.proofs.Folding.{fold_constant, fold_local, fold_combined}
 use Rattle.mm_tree.specs.declared.expr.Expr.{Expr}
 use Rattle.mm_lexer.proofs.Characters.{is_ascii_name_char}
-use Rattle.mm_flat.specs.Flattening.{Placed, Named, IsValue}
+use Rattle.mm_small_code.specs.reading.Flattening.{Placed, Named, IsValue}
 use Rattle.mm_parse_expr.specs.declared.symbol.Symbol.TheVariants as symbol
 use Rattle.mm_parse_expr.specs.declared.terminal.Terminal.{Terminal}
 use Rattle.mm_parse_expr.specs.Symbols.{word_symbol}

@@ -15,8 +15,8 @@ use Rattle.mm_goto.specs.declared.program.Thread.{Thread}
 use Rattle.mm_goto.specs.Names.{IsDeclarable}
 use Rattle.mm_goto.specs.Terms.{the_local}
 use Rattle.mm_lexer.specs.Class.{is_text_char}
-use Rattle.mm_flat.specs.Flattening.{placed, Named, number_of, IsValue, IsCode, AreCode}
-use Rattle.mm_flat.specs.Flattening as flat
+use Rattle.mm_small_code.specs.reading.Flattening.{placed, Named, number_of, IsValue, IsCode, AreCode}
+use Rattle.mm_small_code.specs.reading.Flattening as flat
 use Rattle.mm_parse_expr.specs.declared.symbol.Keyword.TheVariants as reserved
 use Rattle.mm_parse_expr.specs.declared.symbol.Symbol.TheVariants as symbol
 use Rattle.mm_parse_expr.specs.Grammar as expr

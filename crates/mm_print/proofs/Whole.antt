@@ -1,5 +1,5 @@
 -- The printed text of a small program is accepted, and means the woven program.
-use Rattle.std.proofs.Common.{◌≡◌, ℕ, zero, suc, ◌+◌, ◌<◌, ◌⊎◌, inl, inr, ◌==◌, ◌&&◌, not, Bool, true, false, List, [], ◌∷◌, ◌++◌, length, map, Some, None, refl, sym, ◌∙◌, ap, subst, arith, append_assoc}
+use Rattle.std.proofs.Common.{◌≡◌, ℕ, zero, suc, ◌+◌, ◌<◌, ◌^◌, ◌⊎◌, inl, inr, ◌==◌, ◌&&◌, not, Bool, true, false, List, [], ◌∷◌, ◌++◌, length, map, Some, None, refl, sym, ◌∙◌, ap, subst, arith, append_assoc}
 use Rattle.std.specs.Prelude.{codes, slice_get}
 use Rattle.std.specs.Fmt.{decimal}
 use Rattle.std.specs.List.{flat_map, list_all, slice_index_or, AllByRecursion}
@@ -24,9 +24,11 @@ use Rattle.mm_lexer.proofs.Characters.{is_ascii}
 use Rattle.mm_lexer.proofs.Spans.{tokens_say, not_refused}
 use Rattle.mm_lexer.proofs.Unique.{tokens_and_fault, tokens_unique}
 use Rattle.mm_tree.specs.declared.item.Tree.{Tree}
+use Rattle.mm_tree.specs.declared.side.Side.{Side}
 use Rattle.mm_tree.specs.declared.side.Side.TheVariants.{Output}
-use Rattle.mm_flat.specs.Flattening.{AreCells, IsFlat}
-use Rattle.mm_flat.proofs.Programs.{one_listing}
+use Rattle.mm_flow.specs.Programs.{program_of}
+use Rattle.mm_small_code.specs.reading.Flattening.{AreCells}
+use Rattle.mm_small_code.proofs.Equations.{by_the_equations}
 use Rattle.mm_grammar.proofs.ProgramComplete.{one_program as one_tree}
 use Rattle.mm_goto.specs.Names.{IsDeclarable}
 use Rattle.std.proofs.lemmas.List.Elements.{recursion_from_All}
@@ -164,8 +166,8 @@ main_listing p main none alone t code locals = λ i. record {
     thread : unplaced t ≡ woven_main main
     thread = λ i. record { locals = locals i; code = code i; places = [] }
 
-means_of : (p : Listing) (main : Thread) (text : List ℕ) → p.mutexes ≡ [] → p.threads ≡ main ∷ [] → Text p.cells main text → Means text p
-means_of p main text none alone s = by (tokens_and_fault text)
+means_of : (p : Listing) (main : Thread) (text : List ℕ) → length p.cells < 2 ^ 32 → p.mutexes ≡ [] → p.threads ≡ main ∷ [] → Text p.cells main text → Means text p
+means_of p main text few none alone s = by (tokens_and_fault text)
   where
     terminals : (ts : List Token) → AreTokens text ts → map (terminal_of text) ts ≡ laid (places ts) s.signs
     terminals ts a = terminals_laid text ts s.signs (tokens_say text (map lexeme s.signs) ts s.begins.utf8 s.begins.spells a) s.begins.signs
@@ -185,7 +187,7 @@ means_of p main text none alone s = by (tokens_and_fault text)
               shallow = ap (deep_at Output) e ∙ s.shallow (places ts);
               parsed = subst (λ us. AreItems us r.items []) (sym e) r.parsed;
             };
-            flat = record { at = r.at; body = r.body; thread = r.thread; cells = r.declared; mutexes = refl; main = r.flat; threads = refl };
+            flat = by_the_equations Output tree _ (record { at = r.at; body = r.body; thread = r.thread; cells = r.declared; few = few; mutexes = refl; main = r.flat; threads = refl });
           };
           same = main_listing p main none alone r.thread r.code r.locals;
         }
@@ -226,19 +228,19 @@ means p m bound s =
     let items = globals_items p.cells s.main p.cells cells (main_items p.cells s.main (omega (arith, s.few_locals)) (omega (arith, s.few_lines)) (small_names p.cells cells s.apart) small) in
     let text : head_text m bound ++ (flat_map global_text p.cells ++ main_text p.cells s.main) ≡ small_text p m bound =
     sym (append_assoc (head_text m bound) (flat_map global_text p.cells) (main_text p.cells s.main)) ∙ ap (λ ts. head_text m bound ++ flat_map global_text p.cells ++ main_text p.cells (slice_index_or ts 0 no_thread)) (sym s.alone) in
-    means_of p s.main (small_text p m bound) s.mutexes s.alone (subst (Text p.cells s.main) text (whole m bound items))
+    means_of p s.main (small_text p m bound) s.few_cells s.mutexes s.alone (subst (Text p.cells s.main) text (whole m bound items))
 
 pub accepted : (p : Listing) (m : Model) (bound : Bounding) → IsSmallListing p → (q : Listing) × IsProgramOf Output (small_text p m bound) q
 accepted p m bound s = let means = means p m bound s in (means.listing, means.program)
 
 -- ---- a text has one program
 
-pub one_program : (text : List ℕ) (p q : Listing) → IsProgramOf Output text p → IsProgramOf Output text q → p ≡ q
-one_program text p q a b =
+pub one_program : (side : Side) (text : List ℕ) (p q : Listing) → IsProgramOf side text p → IsProgramOf side text q → p ≡ q
+one_program side text p q a b =
     let tokens = tokens_unique text b.read.tokens a.read.tokens b.read.cut a.read.cut in
     let parsed : IsProgram (map (terminal_of text) a.read.tokens) b.tree = subst (λ ts. IsProgram (map (terminal_of text) ts) b.tree) tokens b.read.parsed in
     let tree = one_tree (map (terminal_of text) a.read.tokens) b.tree a.tree parsed a.read.parsed in
-    one_listing Output a.tree p q a.flat (subst (λ t. IsFlat Output t q) tree b.flat)
+    a.flat ∙ ap (program_of side) (sym tree) ∙ sym b.flat
 
 pub woven_text : (p q : Listing) (m : Model) (bound : Bounding) → IsSmallListing p → IsProgramOf Output (small_text p m bound) q → without_places q ≡ woven p
-woven_text p q m bound s d = let means = means p m bound s in ap without_places (one_program (small_text p m bound) q means.listing d means.program) ∙ means.same
+woven_text p q m bound s d = let means = means p m bound s in ap without_places (one_program Output (small_text p m bound) q means.listing d means.program) ∙ means.same

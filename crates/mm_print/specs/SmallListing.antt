@@ -60,6 +60,7 @@ pub record IsSmallListing (p : Listing) : Type 0 where
   pub body : List Instr
   pub code : main.code ≡ body ++ End ∷ []
   pub instrs : All (IsSmallInstr p.cells main) body
-  -- so few that each local and each line has a printed name of its own
+  -- so few that each cell has a number of 32 bits, and each local and each line a printed name of its own
+  pub few_cells : length p.cells < 2 ^ 32
   pub few_locals : main.locals < 2 ^ 32
   pub few_lines : length main.code < 2 ^ 32

@@ -1,13 +1,12 @@
 -- The woven program of a small program fails as the program does with store buffers.
-use Rattle.std.proofs.Common.{◌≡◌, ◌↔◌, ℕ, ◌≤◌, List, length, sym, ap, subst}
+use Rattle.std.proofs.Common.{◌≡◌, ◌↔◌, ℕ, ◌≤◌, List, length, sym, ◌∙◌, ap, subst}
 use Rattle.mm_goto.specs.declared.model.Model.{Model}
 use Rattle.mm_goto.specs.Bounds.{Bounding}
 use Rattle.mm_goto.specs.Listing.{Listing, without_places}
 use Rattle.mm_goto.specs.Valid.{IsValid}
 use Rattle.mm_tree.specs.declared.item.Tree.{Tree}
 use Rattle.mm_tree.specs.declared.side.Side.TheVariants.{Source}
-use Rattle.mm_flat.specs.Flattening.{IsFlat}
-use Rattle.mm_flat.proofs.Programs.{one_listing}
+use Rattle.mm_flow.specs.Programs.{program_of}
 use Rattle.mm_sched.specs.declared.entry.Rules.TheVariants.{Sc, Buffered}
 use Rattle.mm_sched.specs.Runs.{Reaches}
 use Rattle.mm_sched.proofs.Drops.{drops}
@@ -15,21 +14,21 @@ use Rattle.mm_sched.proofs.Adds.{adds}
 use Rattle.mm_sched.proofs.Placeless.{places_do_not_matter}
 use Rattle.mm_small.specs.Flat.{listing_of}
 use Rattle.mm_small.specs.SmallProgram.{IsSmall}
-use Rattle.mm_small.proofs.SmallFlat.{small_flat}
+use Rattle.mm_small.proofs.SmallFlat.{small_program}
 use Rattle.mm_print.specs.SmallListing.{IsSmallListing}
 use Rattle.mm_print.specs.SmallText.{small_text}
 use Rattle.mm_print.specs.Woven.{woven}
-use Rattle.mm_print.proofs.FromSmall.{listing_small}
+use Rattle.mm_run.proofs.FromSmall.{listing_small}
 use Rattle.mm_print.proofs.Whole.{accepted, woven_text}
 use Rattle.mm_run.specs.Answer.{FailsAsBuffered, IsOut, IsWoven}
 use Rattle.mm_run.specs.Program.{IsProgramText, small_source}
 use Rattle.mm_run.proofs.Weaving.{woven_alike}
 
 -- it is what its tree is flattened to
-pub is_listing : (tree : Tree) (p : Listing) (s : IsSmall tree) → IsFlat Source tree p → p ≡ listing_of s.small
-is_listing tree p s f = one_listing Source tree p (listing_of s.small) f (small_flat tree s.small s.is_small)
+pub is_listing : (tree : Tree) (p : Listing) (s : IsSmall tree) → p ≡ program_of Source tree → p ≡ listing_of s.small
+is_listing tree p s f = f ∙ sym (small_program tree s.small s.is_small s.within)
 
-module _ (tree : Tree) (p : Listing) (s : IsSmall tree) (f : IsFlat Source tree p) (m : Model) (bound : Bounding) where
+module _ (tree : Tree) (p : Listing) (s : IsSmall tree) (f : p ≡ program_of Source tree) (m : Model) (bound : Bounding) where
   is_small_listing : IsSmallListing p
   is_small_listing = subst IsSmallListing (sym (is_listing tree p s f)) (listing_small s.small s.within)
 

@@ -42,10 +42,11 @@ use Rattle.mm_sched.specs.Event.{next}
 use Rattle.mm_sched.specs.Runs.{run}
 use Rattle.mm_sched.specs.ScheduleText.{entries_in}
 use Rattle.mm_sched.proofs.ReadingOn.{one_of_them}
-use Rattle.mm_small.specs.Flat.{listing_of}
+use Rattle.mm_tree.specs.declared.side.Side.TheVariants.{Source}
+use Rattle.mm_flow.specs.declared.fault.Limit.{Limit}
+use Rattle.mm_flow.specs.Programs.{limit_passed, program_of}
 use Rattle.mm_small.specs.SmallProgram.{IsSmall}
 use Rattle.mm_small.proofs.Deciding.{small_or_not}
-use Rattle.mm_small.proofs.SmallFlat.{small_flat}
 use Rattle.mm_small.proofs.Validity.{listing_valid}
 use Rattle.mm_grammar.specs.Meaning.{IsTreeOf}
 use Rattle.mm_print.specs.SmallText.{small_text}
@@ -63,7 +64,7 @@ use Rattle.mm_names.proofs.Decided.{each}
 use Rattle.mm_run.specs.Lines.{refusal_line, verdict_line}
 use Rattle.mm_run.specs.Outcome.{IsStuckBehind, Outcome, TellsVerdict}
 use Rattle.mm_run.specs.Parts.{IsNotUtf8, IsParting, IsSplit, LacksPart}
-use Rattle.mm_run.specs.Program.{Intake, IsProgramText, IsRefused, small_source}
+use Rattle.mm_run.specs.Program.{Intake, IsNoProgram, IsProgramText, IsRefused, limit_words, small_source, source}
 use Rattle.mm_run.specs.Settings.{IsThere}
 use Rattle.mm_run.proofs.Alike.{is_listing, is_woven}
 
@@ -184,6 +185,10 @@ module _ (side : Side) (text : List ℕ) (tokens : List Token) (cut : AreTokens 
 abbrev HasRefusal : Intake → List ℕ → Type 0
 HasRefusal taken text = (at : At) × (why : List ℕ) × IsRefused taken text at why
 
+-- a text is no program
+abbrev HasNone : Side → List ℕ → Type 0
+HasNone side text = (at : At) × (why : List ℕ) × IsNoProgram side text at why
+
 no_memory_at : (text : List ℕ) (rest : List Terminal) → fault_at text rest ≡ parse_fault.NoMemory → ⊥
 no_memory_at text [] e = cc
 no_memory_at text (t ∷ rest) e = at t.symbol e
@@ -192,20 +197,20 @@ no_memory_at text (t ∷ rest) e = at t.symbol e
     at symbol.Outside e = cc
     at s e = cc
 
-fault_refuses : (taken : Intake) (text : List ℕ) (tokens : List Token) → AreTokens text tokens → (fault : ParseFault) → IsFault taken.side text tokens fault → HasRefusal taken text
-fault_refuses taken text tokens cut (parse_fault.TooDeep at) h = (at, codes "too deep", IsRefused.too_deep at (record { tokens = tokens; cut = cut; fails = h }))
-fault_refuses taken text tokens cut (parse_fault.OutsideProfile word at) h = (at, codes "outside profile: " ++ word, IsRefused.outside word at (record { tokens = tokens; cut = cut; fails = h }))
-fault_refuses taken text tokens cut (parse_fault.BadSyntax at) h = (at, codes "bad syntax", IsRefused.bad_syntax at (record { tokens = tokens; cut = cut; fails = h }))
-fault_refuses taken text tokens cut parse_fault.NoMemory h = absurd (never parse_fault.NoMemory h refl)
+fault_refuses : (side : Side) (text : List ℕ) (tokens : List Token) → AreTokens text tokens → (fault : ParseFault) → IsFault side text tokens fault → HasNone side text
+fault_refuses side text tokens cut (parse_fault.TooDeep at) h = (at, codes "too deep", IsNoProgram.too_deep at (record { tokens = tokens; cut = cut; fails = h }))
+fault_refuses side text tokens cut (parse_fault.OutsideProfile word at) h = (at, codes "outside profile: " ++ word, IsNoProgram.outside word at (record { tokens = tokens; cut = cut; fails = h }))
+fault_refuses side text tokens cut (parse_fault.BadSyntax at) h = (at, codes "bad syntax", IsNoProgram.bad_syntax at (record { tokens = tokens; cut = cut; fails = h }))
+fault_refuses side text tokens cut parse_fault.NoMemory h = absurd (never parse_fault.NoMemory h refl)
   where
-    never : (fault : ParseFault) → IsFault taken.side text tokens fault → fault ≡ parse_fault.NoMemory → ⊥
+    never : (fault : ParseFault) → IsFault side text tokens fault → fault ≡ parse_fault.NoMemory → ⊥
     never fault (IsFault.too_deep at e) f = cc
     never fault (IsFault.no_program rest e k) f = no_memory_at text rest f
 
-unlexed_refuses : (taken : Intake) (text : List ℕ) (fault : LexFault) → IsFirstFault text fault → HasRefusal taken text
-unlexed_refuses taken text (lex_fault.BadToken at) h = (at, codes "bad token", IsRefused.bad_token at h)
-unlexed_refuses taken text (lex_fault.NumberTooLarge at) h = (at, codes "number too large", IsRefused.large_number at h)
-unlexed_refuses taken text lex_fault.NoMemory h = absurd (never (piece_at h.place.is_head h.rest) h.fails)
+unlexed_refuses : (side : Side) (text : List ℕ) (fault : LexFault) → IsFirstFault text fault → HasNone side text
+unlexed_refuses side text (lex_fault.BadToken at) h = (at, codes "bad token", IsNoProgram.bad_token at h)
+unlexed_refuses side text (lex_fault.NumberTooLarge at) h = (at, codes "number too large", IsNoProgram.large_number at h)
+unlexed_refuses side text lex_fault.NoMemory h = absurd (never (piece_at h.place.is_head h.rest) h.fails)
   where
     never : (x : Piece) → fault_of x h.place.at ≡ Some lex_fault.NoMemory → ⊥
     never piece.End e = cc
@@ -228,30 +233,46 @@ no_memory_said side tree fault (at_fault f main is least) m = told f.rule m
     told rule.BadThread m = cc
     told rule.Recursion m = cc
 
-name_refuses : (taken : Intake) (text : List ℕ) (tree : Tree) → IsTreeOf taken.side text tree → (fault : NameFault) → IsNameFault taken.side tree fault → HasRefusal taken text
-name_refuses taken text tree read (name_fault.NoMain at) h = (at, codes "no main", IsRefused.no_main at (record { tree = tree; read = read; fails = h }))
-name_refuses taken text tree read (name_fault.ReservedName at) h = (at, codes "reserved name", IsRefused.reserved at (record { tree = tree; read = read; fails = h }))
-name_refuses taken text tree read (name_fault.OutputOnly at) h = (at, codes "output only", IsRefused.output_only at (record { tree = tree; read = read; fails = h }))
-name_refuses taken text tree read (name_fault.TwiceDeclared at) h = (at, codes "declared twice", IsRefused.twice at (record { tree = tree; read = read; fails = h }))
-name_refuses taken text tree read (name_fault.UnknownName at) h = (at, codes "unknown name", IsRefused.unknown at (record { tree = tree; read = read; fails = h }))
-name_refuses taken text tree read (name_fault.WrongType at) h = (at, codes "wrong type", IsRefused.wrong_type at (record { tree = tree; read = read; fails = h }))
-name_refuses taken text tree read (name_fault.BadThread at) h = (at, codes "bad thread", IsRefused.bad_thread at (record { tree = tree; read = read; fails = h }))
-name_refuses taken text tree read (name_fault.Recursion at) h = (at, codes "recursion", IsRefused.recursion at (record { tree = tree; read = read; fails = h }))
-name_refuses taken text tree read name_fault.NoMemory h = absurd (no_memory_said taken.side tree _ h refl)
+name_refuses : (side : Side) (text : List ℕ) (tree : Tree) → IsTreeOf side text tree → (fault : NameFault) → IsNameFault side tree fault → HasNone side text
+name_refuses side text tree read (name_fault.NoMain at) h = (at, codes "no main", IsNoProgram.no_main at (record { tree = tree; read = read; fails = h }))
+name_refuses side text tree read (name_fault.ReservedName at) h = (at, codes "reserved name", IsNoProgram.reserved at (record { tree = tree; read = read; fails = h }))
+name_refuses side text tree read (name_fault.OutputOnly at) h = (at, codes "output only", IsNoProgram.output_only at (record { tree = tree; read = read; fails = h }))
+name_refuses side text tree read (name_fault.TwiceDeclared at) h = (at, codes "declared twice", IsNoProgram.twice at (record { tree = tree; read = read; fails = h }))
+name_refuses side text tree read (name_fault.UnknownName at) h = (at, codes "unknown name", IsNoProgram.unknown at (record { tree = tree; read = read; fails = h }))
+name_refuses side text tree read (name_fault.WrongType at) h = (at, codes "wrong type", IsNoProgram.wrong_type at (record { tree = tree; read = read; fails = h }))
+name_refuses side text tree read (name_fault.BadThread at) h = (at, codes "bad thread", IsNoProgram.bad_thread at (record { tree = tree; read = read; fails = h }))
+name_refuses side text tree read (name_fault.Recursion at) h = (at, codes "recursion", IsNoProgram.recursion at (record { tree = tree; read = read; fails = h }))
+name_refuses side text tree read name_fault.NoMemory h = absurd (no_memory_said side tree _ h refl)
 
-small_program : (text : List ℕ) (tree : Tree) → IsTreeOf small_source.side text tree → MakesSense small_source.side tree → IsSmall tree ⊎ (IsSmall tree → ⊥) → ((p : Listing) × IsProgramText small_source text p) ⊎ HasRefusal small_source text
-small_program text tree read sense (inl s) = inl (listing_of s.small, record { tree = tree; read = read; sense = sense; built = s; flat = small_flat tree s.small s.is_small })
-small_program text tree read sense (inr n) = inr (start, codes "not built", IsRefused.not_built (record { tree = tree; read = read; sense = sense; not_built = n }))
+-- the text is a program, or is none
+abbrev IsKnown : Side → List ℕ → Type 0
+IsKnown side text = ((tree : Tree) × IsTreeOf side text tree × MakesSense side tree × (limit_passed side tree ≡ None)) ⊎ HasNone side text
 
-sensible : (text : List ℕ) (tree : Tree) → IsTreeOf small_source.side text tree → MakesSense small_source.side tree ⊎ ((fault : NameFault) × IsNameFault small_source.side tree fault) → ((p : Listing) × IsProgramText small_source text p) ⊎ HasRefusal small_source text
-sensible text tree read (inl sense) = small_program text tree read sense (small_or_not tree)
-sensible text tree read (inr f) = inr (name_refuses small_source text tree read f.0 f.1)
+limited : (side : Side) (text : List ℕ) (tree : Tree) → IsTreeOf side text tree → MakesSense side tree → (o : Option Limit) → limit_passed side tree ≡ o → IsKnown side text
+limited side text tree read sense None e = inl (tree, read, sense, e)
+limited side text tree read sense (Some limit) e = inr (start, limit_words limit, IsNoProgram.too_many limit (record { tree = tree; read = read; sense = sense; passed = e }))
 
-program_or_refusal : (text : List ℕ) → ((p : Listing) × IsProgramText small_source text p) ⊎ HasRefusal small_source text
-program_or_refusal text = ⊎_elim
-    (λ t. ⊎_elim (λ r. sensible text r.0 r.1 (each small_source.side r.0)) (λ f. inr (fault_refuses small_source text t.0 t.1 f.0 f.1)) (tree_or_fault small_source.side text t.0 t.1))
-    (λ f. inr (unlexed_refuses small_source text f.0 f.1))
+sensible : (side : Side) (text : List ℕ) (tree : Tree) → IsTreeOf side text tree → MakesSense side tree ⊎ ((fault : NameFault) × IsNameFault side tree fault) → IsKnown side text
+sensible side text tree read (inl sense) = limited side text tree read sense (limit_passed side tree) refl
+sensible side text tree read (inr f) = inr (name_refuses side text tree read f.0 f.1)
+
+known : (side : Side) (text : List ℕ) → IsKnown side text
+known side text = ⊎_elim
+    (λ t. ⊎_elim (λ r. sensible side text r.0 r.1 (each side r.0)) (λ f. inr (fault_refuses side text t.0 t.1 f.0 f.1)) (tree_or_fault side text t.0 t.1))
+    (λ f. inr (unlexed_refuses side text f.0 f.1))
     (tokens_and_fault text)
+
+of_source : (text : List ℕ) → IsKnown Source text → ((p : Listing) × IsProgramText source text p) ⊎ HasRefusal source text
+of_source text (inl k) = inl (program_of Source k.0, record { tree = k.0; read = k.1; sense = k.2; within = k.3; built = tt; flat = refl })
+of_source text (inr n) = inr (n.0, n.1, IsRefused.no_program n.2)
+
+small_or_refused : (text : List ℕ) (tree : Tree) → IsTreeOf Source text tree → MakesSense Source tree → limit_passed Source tree ≡ None → IsSmall tree ⊎ (IsSmall tree → ⊥) → ((p : Listing) × IsProgramText small_source text p) ⊎ HasRefusal small_source text
+small_or_refused text tree read sense within (inl s) = inl (program_of Source tree, record { tree = tree; read = read; sense = sense; within = within; built = s; flat = refl })
+small_or_refused text tree read sense within (inr n) = inr (start, codes "not built", IsRefused.not_built (record { tree = tree; read = read; sense = sense; within = within; not_built = n }))
+
+of_small : (text : List ℕ) → IsKnown Source text → ((p : Listing) × IsProgramText small_source text p) ⊎ HasRefusal small_source text
+of_small text (inl k) = small_or_refused text k.0 k.1 k.2 k.3 (small_or_not k.0)
+of_small text (inr n) = inr (n.0, n.1, IsRefused.no_program n.2)
 
 -- ---- a run, or an entry that is not enabled
 
@@ -302,17 +323,17 @@ woven_answers : (m : Model) (bound : Bounding) → 1 ≤ bound → (input : List
 woven_answers m bound b input = ⊎_elim
     (λ h. (Done, small_text h.0 m bound, AnswersProgram.program h.0 h.1 (PrintsWoven.done (is_woven h.0 m bound (small_text h.0 m bound) (valid h.0 h.1) b refl input h.1))))
     (λ h. (Refused, refusal_line h.0 h.1, AnswersProgram.refused (Refusing.refused h.0 h.1 h.2)))
-    (program_or_refusal input)
+    (of_small input (known Source input))
   where
     valid : (p : Listing) → IsProgramText small_source input p → IsValid p
     valid p h = subst IsValid (sym (is_listing h.tree p h.built h.flat)) (listing_valid h.built.small h.built.within)
 
-parts_answer : (r : Rules) (input : List ℕ) → IsAnswered (AnswersParts small_source (Replays r) input)
+parts_answer : (r : Rules) (input : List ℕ) → IsAnswered (AnswersParts source (Replays r) input)
 parts_answer r input = ⊎_elim
     (λ s. ⊎_elim
     (λ h. let a = replay_answers r h.0 s.1 in (a.0, a.1, AnswersParts.both s.0 s.1 h.0 s.2 h.1 a.2))
     (λ h. (Refused, refusal_line h.0 h.1, AnswersParts.refused s.0 s.1 s.2 (Refusing.refused h.0 h.1 h.2)))
-    (program_or_refusal s.0))
+    (of_source s.0 (known Source s.0)))
     (λ l. (Refused, _, AnswersParts.one_part l))
     (split_or_not input)
 

@@ -1,5 +1,5 @@
 -- What is answered to what was read.
-use Rattle.std.proofs.Common.{◌≡◌, sym, ℕ, List, codes, Option, IsUtf8, Result, Ok, Err, IfOk}
+use Rattle.std.proofs.Common.{◌≡◌, sym, ℕ, List, codes, Option, IsUtf8, Result, Ok, Err, IfOk, IfErr, IsErr, IsErrAnd, subst}
 use Rattle.std.specs.Str.{chars}
 use Rattle.mm_goto.specs.declared.ident.At.{At}
 use Rattle.mm_goto.specs.declared.model.Model.{Model}
@@ -14,12 +14,17 @@ use Rattle.mm_run.specs.declared.status.Status.TheVariants.{Done, Refused, TooLo
 use Rattle.mm_run.specs.Input.{IsWhole, IsTooLong}
 use Rattle.mm_run.specs.Lines.{refusal_line}
 use Rattle.mm_run.specs.Parts.{IsNotUtf8, LacksPart}
-use Rattle.mm_run.specs.Program.{Intake, IsProgramText, IsRefused, small_source}
+use Rattle.mm_run.specs.Program.{Intake, IsProgramText, IsRefused, small_source, source}
 use Rattle.mm_run.specs.Answer.{AnswersInput, AnswersParts, AnswersProgram, AnswersText, AnswersWhole, IsWoven, PrintsWoven, Refusing, Replays, Responds}
 
 pub if_ok : {A E : Type 0} (P Q : A → Type 0) (r : Result A E) → IfOk r P → ((a : A) → P a → Q a) → IfOk r Q
 if_ok P Q (Ok a) h f = f a h
 if_ok P Q (Err e) h f = tt
+
+-- an error that is passed on is the same
+pub passed_err : {A E : Type 0} (P : E → Type 0) (r : Result A E) (x : E) → IsErr r × IsErrAnd r (λ e. e ≡ x) → P x → IfErr r P
+passed_err P (Ok a) x h p = tt
+passed_err P (Err e) x h p = subst P (sym h.1) p
 
 -- what a command gives once it has read its input
 pub responds_input : (s : Settings) (old new : Option (List ℕ)) (status : Status) (out : List ℕ) → AnswersInput s old new status out → Responds s old new status out
@@ -33,9 +38,6 @@ input_responds ReplaySc old new status out h = h
 input_responds (Replay m bound) old new status out h = h
 
 module _ (status : Status) (out : List ℕ) where
-  pub is_refused : (taken : Intake) (text : List ℕ) (at : At) (why : List ℕ) → IsRefused taken text at why → status ≡ Refused → out ≡ refusal_line at why → Refusing taken text status out
-  is_refused taken text at why h s o = rw (s, o) (Refusing.refused at why h)
-
   pub prints_woven : (m : Model) (bound : Bounding) (input : List ℕ) (p : Listing) → IsProgramText small_source input p → IsWoven p m bound out → status ≡ Done → AnswersProgram small_source (PrintsWoven m bound) input status out
   prints_woven m bound input p h w s = rw s (AnswersProgram.program p h (PrintsWoven.done w))
 
@@ -45,7 +47,7 @@ module _ (status : Status) (out : List ℕ) where
   pub has_text : (s : Settings) (input text : List ℕ) → IsUtf8 input → text ≡ input → AnswersText s text status out → AnswersWhole s input status out
   has_text s input text u e h = AnswersWhole.text u (rw (sym e) h)
 
-  pub one_part : (r : Rules) (input : List ℕ) → LacksPart input → status ≡ Refused → out ≡ refusal_line (place_after (chars input)) (codes "missing part") → AnswersParts small_source (Replays r) input status out
+  pub one_part : (r : Rules) (input : List ℕ) → LacksPart input → status ≡ Refused → out ≡ refusal_line (place_after (chars input)) (codes "missing part") → AnswersParts source (Replays r) input status out
   one_part r input h s o = rw (s, o) (AnswersParts.one_part h)
 
   pub responds_whole : (s : Settings) (old new : Option (List ℕ)) (bytes read : List ℕ) → IsWhole old new bytes → read ≡ bytes → AnswersWhole s read status out → Responds s old new status out

@@ -21,7 +21,7 @@ use Rattle.mm_run.specs.declared.status.Status.{Status}
 use Rattle.mm_run.specs.Accepted.{HasParts, IsAccepted, IsRun}
 use Rattle.mm_run.specs.Input.{IsTooLong}
 use Rattle.mm_run.specs.Parts.{IsSplit}
-use Rattle.mm_run.specs.Program.{Intake, IsProgramText, small_source}
+use Rattle.mm_run.specs.Program.{Intake, IsProgramText, small_source, source}
 use Rattle.mm_run.specs.Outcome.{IsStuckBehind, Outcome, TellsVerdict}
 use Rattle.mm_run.specs.Answer.{AnswersInput, AnswersParts, AnswersProgram, AnswersText, AnswersWhole, PrintsWoven, Replays, Responds, IsDoneOrKept}
 use Rattle.mm_run.proofs.Answering.{input_responds}
@@ -102,8 +102,8 @@ instrumented m bound input p h status out (AnswersProgram.program q k w) = print
 
 done_text : (s : Settings) (input : List ℕ) (status : Status) (out : List ℕ) → HasParts s input → AnswersText s input status out → IsDoneOrKept status
 done_text (Instrument m bound) input status out h a = instrumented m bound input h.0 h.1 status out a
-done_text ReplaySc input status out h a = parts small_source _ input h status out a
-done_text (Replay m bound) input status out h a = parts small_source _ input h status out a
+done_text ReplaySc input status out h a = parts source _ input h status out a
+done_text (Replay m bound) input status out h a = parts source _ input h status out a
 
 done_whole : (s : Settings) (input : List ℕ) (status : Status) (out : List ℕ) → IsAccepted s input → AnswersWhole s input status out → IsDoneOrKept status
 done_whole s input status out h (AnswersWhole.no_text at n) = absurd (is_text input n.front h.text n.longest)

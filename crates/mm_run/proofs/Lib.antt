@@ -5,12 +5,12 @@ pub mod Completing
 pub mod Parting
 pub mod Reading
 pub mod Replaying
-pub mod Sectionless
 pub mod Straight
 pub mod Weaving
 pub mod Wording
 pub mod Writing
 mod AnAnswer
+mod FromSmall
 mod OneAnswer
 mod OneAnswerCause
 mod OneAnswerSchedule

@@ -16,7 +16,7 @@ use Rattle.mm_run.specs.Answer.{AnswersParts, AnswersProgram, AnswersText, Answe
 use Rattle.mm_run.specs.Lines.{refusal_line}
 use Rattle.mm_run.specs.Parts.{IsNotUtf8, IsSplit}
 use Rattle.mm_run.specs.Outcome.{TellsVerdict}
-use Rattle.mm_run.specs.Program.{Intake, IsProgramText, small_source}
+use Rattle.mm_run.specs.Program.{Intake, IsProgramText, small_source, source}
 use Rattle.mm_run.proofs.Completing.{is_text, one_back, one_front}
 use Rattle.mm_run.proofs.Refused.{not_refused, one_program}
 use Rattle.mm_run.proofs.OneAnswerCause.{one_refusing}
@@ -68,8 +68,8 @@ module _ (taken : Intake) (Gives : ScheduleAnswer) (one : (p : Listing) (schedul
 
 one_text : (s : Settings) (input : List ℕ) (a b : Status) (out text : List ℕ) → AnswersText s input a out → AnswersText s input b text → (a ≡ b) × (out ≡ text)
 one_text (Instrument m bound) input a b out text h k = one_of_program small_source (PrintsWoven m bound) (one_woven m bound) input a b out text h k
-one_text ReplaySc input a b out text h k = one_of_parts small_source (Replays Sc) (one_replay Sc) input a b out text h k
-one_text (Replay m bound) input a b out text h k = one_of_parts small_source (Replays (Buffered m bound)) (one_replay (Buffered m bound)) input a b out text h k
+one_text ReplaySc input a b out text h k = one_of_parts source (Replays Sc) (one_replay Sc) input a b out text h k
+one_text (Replay m bound) input a b out text h k = one_of_parts source (Replays (Buffered m bound)) (one_replay (Buffered m bound)) input a b out text h k
 
 -- an input is a text or is none, and has one answer
 pub one_answer : (s : Settings) (input : List ℕ) (a b : Status) (out text : List ℕ) → AnswersWhole s input a out → AnswersWhole s input b text → (a ≡ b) × (out ≡ text)

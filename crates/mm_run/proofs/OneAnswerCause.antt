@@ -1,5 +1,5 @@
 -- A refused text has one cause, which tells the place and the words.
-use Rattle.std.proofs.Common.{◌≡◌, ℕ, List, [], ◌++◌, length, drop, codes, refl, sym, ◌∙◌, ap, subst, arith}
+use Rattle.std.proofs.Common.{◌≡◌, ℕ, List, [], ◌++◌, length, drop, codes, Option, Some, refl, sym, ◌∙◌, ap, subst, arith}
 use Rattle.std.proofs.Math.Seq.{drop-append_seam}
 use Rattle.mm_goto.specs.declared.ident.At.{At}
 use Rattle.mm_goto.specs.Place.{start}
@@ -18,12 +18,14 @@ use Rattle.mm_parse.specs.Faults.{IsFault}
 use Rattle.mm_run.specs.declared.status.Status.{Status}
 use Rattle.mm_run.specs.Answer.{Refusing}
 use Rattle.mm_run.specs.Lines.{refusal_line}
+use Rattle.mm_flow.specs.declared.fault.Limit.{Limit}
+use Rattle.mm_flow.specs.Programs.{limit_passed}
 use Rattle.mm_names.specs.declared.refusal.NameFault.{NameFault}
 use Rattle.mm_names.specs.declared.refusal.NameFault.TheVariants as name_fault
 use Rattle.mm_names.specs.Programs.{IsRefused as IsNameFault}
 use Rattle.mm_names.proofs.Decided.{in_one_way}
-use Rattle.mm_run.specs.Program.{HasFault, HasNameFault, Intake, IsNotBuilt, IsRefused}
-use Rattle.mm_run.proofs.Refused.{no_fault, no_parse_fault, no_name_fault, one_tree}
+use Rattle.mm_run.specs.Program.{HasFault, HasNameFault, Intake, IsNoProgram, IsNotBuilt, IsRefused, PassesLimit, limit_words}
+use Rattle.mm_run.proofs.Refused.{no_fault, no_limit, no_parse_fault, no_name_fault, one_tree}
 
 -- ---- the fault of the grammar is one
 
@@ -51,12 +53,14 @@ data Cause : Type 0 where
   of_tokens : LexFault → Cause
   of_grammar : ParseFault → Cause
   of_names : NameFault → Cause
+  of_limits : Limit → Cause
   not_built : Cause
 
 abbrev HasCause : Intake → List ℕ → Cause → Type 0
 HasCause taken text (Cause.of_tokens fault) = IsFirstFault text fault
 HasCause taken text (Cause.of_grammar fault) = HasFault taken.side text fault
 HasCause taken text (Cause.of_names fault) = HasNameFault taken.side text fault
+HasCause taken text (Cause.of_limits limit) = PassesLimit taken.side text limit
 HasCause taken text Cause.not_built = IsNotBuilt taken text
 
 -- the place of a cause; want of memory refuses no text
@@ -77,6 +81,7 @@ place_of (Cause.of_names (name_fault.WrongType at)) = at
 place_of (Cause.of_names (name_fault.BadThread at)) = at
 place_of (Cause.of_names (name_fault.Recursion at)) = at
 place_of (Cause.of_names name_fault.NoMemory) = start
+place_of (Cause.of_limits limit) = start
 place_of Cause.not_built = start
 
 -- and its words
@@ -97,11 +102,19 @@ words_of (Cause.of_names (name_fault.WrongType at)) = codes "wrong type"
 words_of (Cause.of_names (name_fault.BadThread at)) = codes "bad thread"
 words_of (Cause.of_names (name_fault.Recursion at)) = codes "recursion"
 words_of (Cause.of_names name_fault.NoMemory) = []
+words_of (Cause.of_limits limit) = limit_words limit
 words_of Cause.not_built = codes "not built"
 
 -- a text has one fault of its names and types at most
 one_name_fault : (taken : Intake) (text : List ℕ) (f g : NameFault) → HasNameFault taken.side text f → HasNameFault taken.side text g → f ≡ g
 one_name_fault taken text f g h k = in_one_way taken.side k.tree f g (subst (λ (t : Tree). IsNameFault taken.side t f) (one_tree taken.side text h.tree k.tree h.read k.read) h.fails) k.fails
+
+-- and passes one limit first
+one_limit : (side : Side) (text : List ℕ) (f g : Limit) → PassesLimit side text f → PassesLimit side text g → f ≡ g
+one_limit side text f g h k = same (subst (λ (t : Tree). limit_passed side t ≡ Some f) (one_tree side text h.tree k.tree h.read k.read) h.passed) k.passed
+  where
+    same : {o : Option Limit} → o ≡ Some f → o ≡ Some g → f ≡ g
+    same e f = cc
 
 -- a text has one cause at most
 one_cause : (taken : Intake) (text : List ℕ) (a b : Cause) → HasCause taken text a → HasCause taken text b → a ≡ b
@@ -117,6 +130,15 @@ one_cause taken text (Cause.of_names f) (Cause.of_tokens g) h k = absurd (no_fau
 one_cause taken text (Cause.of_names f) (Cause.of_grammar g) h k = absurd (no_parse_fault taken.side text h.tree h.read g k)
 one_cause taken text (Cause.of_names f) (Cause.of_names g) h k = ap Cause.of_names (one_name_fault taken text f g h k)
 one_cause taken text (Cause.of_names f) Cause.not_built h k = absurd (no_name_fault taken.side text k.tree k.read k.sense f h)
+one_cause taken text (Cause.of_tokens f) (Cause.of_limits g) h k = absurd (no_fault taken.side text k.tree k.read f h)
+one_cause taken text (Cause.of_grammar f) (Cause.of_limits g) h k = absurd (no_parse_fault taken.side text k.tree k.read f h)
+one_cause taken text (Cause.of_names f) (Cause.of_limits g) h k = absurd (no_name_fault taken.side text k.tree k.read k.sense f h)
+one_cause taken text (Cause.of_limits f) (Cause.of_tokens g) h k = absurd (no_fault taken.side text h.tree h.read g k)
+one_cause taken text (Cause.of_limits f) (Cause.of_grammar g) h k = absurd (no_parse_fault taken.side text h.tree h.read g k)
+one_cause taken text (Cause.of_limits f) (Cause.of_names g) h k = absurd (no_name_fault taken.side text h.tree h.read h.sense g k)
+one_cause taken text (Cause.of_limits f) (Cause.of_limits g) h k = ap Cause.of_limits (one_limit taken.side text f g h k)
+one_cause taken text (Cause.of_limits f) Cause.not_built h k = absurd (no_limit taken.side text k.tree k.read k.within f h)
+one_cause taken text Cause.not_built (Cause.of_limits g) h k = absurd (no_limit taken.side text h.tree h.read h.within g k)
 one_cause taken text Cause.not_built (Cause.of_tokens g) h k = absurd (no_fault taken.side text h.tree h.read g k)
 one_cause taken text Cause.not_built (Cause.of_grammar g) h k = absurd (no_parse_fault taken.side text h.tree h.read g k)
 one_cause taken text Cause.not_built (Cause.of_names g) h k = absurd (no_name_fault taken.side text h.tree h.read h.sense g k)
@@ -131,20 +153,24 @@ record Caused (taken : Intake) (text : List ℕ) (at : At) (why : List ℕ) : Ty
   place : at ≡ place_of cause
   words : why ≡ words_of cause
 
+no_program_caused : (taken : Intake) (text : List ℕ) (at : At) (why : List ℕ) → IsNoProgram taken.side text at why → Caused taken text at why
+no_program_caused taken text at why (IsNoProgram.bad_token q f) = record { cause = Cause.of_tokens (lex_fault.BadToken q); has = f; place = refl; words = refl }
+no_program_caused taken text at why (IsNoProgram.large_number q f) = record { cause = Cause.of_tokens (lex_fault.NumberTooLarge q); has = f; place = refl; words = refl }
+no_program_caused taken text at why (IsNoProgram.too_deep q f) = record { cause = Cause.of_grammar (parse_fault.TooDeep q); has = f; place = refl; words = refl }
+no_program_caused taken text at why (IsNoProgram.outside word q f) = record { cause = Cause.of_grammar (parse_fault.OutsideProfile word q); has = f; place = refl; words = refl }
+no_program_caused taken text at why (IsNoProgram.bad_syntax q f) = record { cause = Cause.of_grammar (parse_fault.BadSyntax q); has = f; place = refl; words = refl }
+no_program_caused taken text at why (IsNoProgram.no_main q f) = record { cause = Cause.of_names (name_fault.NoMain q); has = f; place = refl; words = refl }
+no_program_caused taken text at why (IsNoProgram.reserved q f) = record { cause = Cause.of_names (name_fault.ReservedName q); has = f; place = refl; words = refl }
+no_program_caused taken text at why (IsNoProgram.output_only q f) = record { cause = Cause.of_names (name_fault.OutputOnly q); has = f; place = refl; words = refl }
+no_program_caused taken text at why (IsNoProgram.twice q f) = record { cause = Cause.of_names (name_fault.TwiceDeclared q); has = f; place = refl; words = refl }
+no_program_caused taken text at why (IsNoProgram.unknown q f) = record { cause = Cause.of_names (name_fault.UnknownName q); has = f; place = refl; words = refl }
+no_program_caused taken text at why (IsNoProgram.wrong_type q f) = record { cause = Cause.of_names (name_fault.WrongType q); has = f; place = refl; words = refl }
+no_program_caused taken text at why (IsNoProgram.bad_thread q f) = record { cause = Cause.of_names (name_fault.BadThread q); has = f; place = refl; words = refl }
+no_program_caused taken text at why (IsNoProgram.recursion q f) = record { cause = Cause.of_names (name_fault.Recursion q); has = f; place = refl; words = refl }
+no_program_caused taken text at why (IsNoProgram.too_many limit f) = record { cause = Cause.of_limits limit; has = f; place = refl; words = refl }
+
 caused : (taken : Intake) (text : List ℕ) (at : At) (why : List ℕ) → IsRefused taken text at why → Caused taken text at why
-caused taken text at why (IsRefused.bad_token q f) = record { cause = Cause.of_tokens (lex_fault.BadToken q); has = f; place = refl; words = refl }
-caused taken text at why (IsRefused.large_number q f) = record { cause = Cause.of_tokens (lex_fault.NumberTooLarge q); has = f; place = refl; words = refl }
-caused taken text at why (IsRefused.too_deep q f) = record { cause = Cause.of_grammar (parse_fault.TooDeep q); has = f; place = refl; words = refl }
-caused taken text at why (IsRefused.outside word q f) = record { cause = Cause.of_grammar (parse_fault.OutsideProfile word q); has = f; place = refl; words = refl }
-caused taken text at why (IsRefused.bad_syntax q f) = record { cause = Cause.of_grammar (parse_fault.BadSyntax q); has = f; place = refl; words = refl }
-caused taken text at why (IsRefused.no_main q f) = record { cause = Cause.of_names (name_fault.NoMain q); has = f; place = refl; words = refl }
-caused taken text at why (IsRefused.reserved q f) = record { cause = Cause.of_names (name_fault.ReservedName q); has = f; place = refl; words = refl }
-caused taken text at why (IsRefused.output_only q f) = record { cause = Cause.of_names (name_fault.OutputOnly q); has = f; place = refl; words = refl }
-caused taken text at why (IsRefused.twice q f) = record { cause = Cause.of_names (name_fault.TwiceDeclared q); has = f; place = refl; words = refl }
-caused taken text at why (IsRefused.unknown q f) = record { cause = Cause.of_names (name_fault.UnknownName q); has = f; place = refl; words = refl }
-caused taken text at why (IsRefused.wrong_type q f) = record { cause = Cause.of_names (name_fault.WrongType q); has = f; place = refl; words = refl }
-caused taken text at why (IsRefused.bad_thread q f) = record { cause = Cause.of_names (name_fault.BadThread q); has = f; place = refl; words = refl }
-caused taken text at why (IsRefused.recursion q f) = record { cause = Cause.of_names (name_fault.Recursion q); has = f; place = refl; words = refl }
+caused taken text at why (IsRefused.no_program n) = no_program_caused taken text at why n
 caused taken text at why (IsRefused.not_built f) = record { cause = Cause.not_built; has = f; place = refl; words = refl }
 
 -- a refusal has one place and one reason

@@ -1,5 +1,5 @@
 -- A text has one goto program or is refused, and not both.
-use Rattle.std.proofs.Common.{◌≡◌, ◌≢◌, ℕ, List, map, Option, Some, None, sym, ◌∙◌, subst}
+use Rattle.std.proofs.Common.{◌≡◌, ◌≢◌, ℕ, List, map, Option, Some, None, string_bytes, sym, ◌∙◌, ap, subst}
 use Rattle.mm_goto.specs.declared.ident.At.{At}
 use Rattle.mm_goto.specs.Listing.{Listing}
 use Rattle.mm_lexer.specs.declared.token.Token.{Token}
@@ -9,8 +9,8 @@ use Rattle.mm_lexer.proofs.Unique.{tokens_unique, tokens_or_fault}
 use Rattle.mm_tree.specs.declared.item.Tree.{Tree}
 use Rattle.mm_tree.specs.declared.side.Side.{Side}
 use Rattle.mm_tree.specs.declared.side.Side.TheVariants.{Source}
-use Rattle.mm_flat.specs.Flattening.{IsFlat}
-use Rattle.mm_flat.proofs.Programs.{one_listing}
+use Rattle.mm_flow.specs.declared.fault.Limit.{Limit}
+use Rattle.mm_flow.specs.Programs.{limit_passed, program_of}
 use Rattle.mm_parse_expr.specs.declared.fault.ParseFault.{ParseFault}
 use Rattle.mm_parse_expr.specs.Terminals.{terminal_of}
 use Rattle.mm_parse.specs.Faults.{IsFault, Parses}
@@ -21,14 +21,14 @@ use Rattle.mm_lexer.specs.declared.token.LexFault.TheVariants as lex_fault
 use Rattle.mm_parse_expr.specs.declared.fault.ParseFault.TheVariants as parse_fault
 use Rattle.mm_run.specs.declared.program.ProgramFault.{ProgramFault}
 use Rattle.mm_run.specs.declared.program.ProgramFault.TheVariants as program_fault
-use Rattle.mm_run.specs.Refusal.{Says, Refuses}
+use Rattle.mm_run.specs.Refusal.{Rejects, Refuses, Says, Tells}
 use Rattle.mm_run.specs.declared.status.Status.{Status}
 use Rattle.mm_run.specs.Answer.{Refusing}
 use Rattle.mm_names.specs.declared.refusal.NameFault.{NameFault}
 use Rattle.mm_names.specs.declared.refusal.NameFault.TheVariants as name_fault
 use Rattle.mm_names.specs.Programs.{IsAccepted as MakesSense, IsRefused as IsNameFault}
 use Rattle.mm_names.proofs.Decided.{never_both}
-use Rattle.mm_run.specs.Program.{HasFault, HasNameFault, Intake, IsProgramText, IsRefused, small_source}
+use Rattle.mm_run.specs.Program.{HasFault, HasNameFault, Intake, IsNoProgram, IsProgramText, IsRefused, PassesLimit, small_source, source}
 
 -- the tree of the tokens is that of the text
 pub tree_of : (side : Side) (text : List ℕ) (tokens read : List Token) (tree : Tree) → read ≡ tokens → AreTokens text tokens → Parses side text read tree → IsTreeOf side text tree
@@ -42,7 +42,7 @@ one_tree side text a b h k =
 pub one_program : (taken : Intake) (text : List ℕ) (p q : Listing) → IsProgramText taken text p → IsProgramText taken text q → p ≡ q
 one_program taken text p q h k =
     let same : h.tree ≡ k.tree = one_tree taken.side text h.tree k.tree h.read k.read in
-    one_listing taken.side h.tree p q h.flat (subst (λ (t : Tree). IsFlat taken.side t q) (sym same) k.flat)
+    h.flat ∙ ap (program_of taken.side) same ∙ sym k.flat
 
 -- a text that has a tree has no fault of its tokens and none of the grammar
 module _ (side : Side) (text : List ℕ) (tree : Tree) (h : IsTreeOf side text tree) where
@@ -63,21 +63,33 @@ module _ (side : Side) (text : List ℕ) (tree : Tree) (h : IsTreeOf side text t
 pub no_name_fault : (side : Side) (text : List ℕ) (tree : Tree) → IsTreeOf side text tree → MakesSense side tree → (fault : NameFault) → HasNameFault side text fault → ⊥
 no_name_fault side text tree read sense fault f = never_both side tree fault sense (subst (λ (t : Tree). IsNameFault side t fault) (one_tree side text f.tree tree f.read read) f.fails)
 
+-- nor does it pass a limit where it passes none
+pub no_limit : (side : Side) (text : List ℕ) (tree : Tree) → IsTreeOf side text tree → limit_passed side tree ≡ None → (limit : Limit) → PassesLimit side text limit → ⊥
+no_limit side text tree read none limit f = never (subst (λ (t : Tree). limit_passed side t ≡ None) (one_tree side text tree f.tree read f.read) none) f.passed
+  where
+    never : {o : Option Limit} → o ≡ None → o ≡ Some limit → ⊥
+    never e f = cc
+
+module _ (side : Side) (text : List ℕ) (tree : Tree) (read : IsTreeOf side text tree) (sense : MakesSense side tree) (within : limit_passed side tree ≡ None) where
+  pub is_program : (at : At) (why : List ℕ) → IsNoProgram side text at why → ⊥
+  is_program at why (IsNoProgram.bad_token q f) = no_fault side text tree read _ f
+  is_program at why (IsNoProgram.large_number q f) = no_fault side text tree read _ f
+  is_program at why (IsNoProgram.too_deep q f) = no_parse_fault side text tree read _ f
+  is_program at why (IsNoProgram.outside word q f) = no_parse_fault side text tree read _ f
+  is_program at why (IsNoProgram.bad_syntax q f) = no_parse_fault side text tree read _ f
+  is_program at why (IsNoProgram.no_main q f) = no_name_fault side text tree read sense _ f
+  is_program at why (IsNoProgram.reserved q f) = no_name_fault side text tree read sense _ f
+  is_program at why (IsNoProgram.output_only q f) = no_name_fault side text tree read sense _ f
+  is_program at why (IsNoProgram.twice q f) = no_name_fault side text tree read sense _ f
+  is_program at why (IsNoProgram.unknown q f) = no_name_fault side text tree read sense _ f
+  is_program at why (IsNoProgram.wrong_type q f) = no_name_fault side text tree read sense _ f
+  is_program at why (IsNoProgram.bad_thread q f) = no_name_fault side text tree read sense _ f
+  is_program at why (IsNoProgram.recursion q f) = no_name_fault side text tree read sense _ f
+  is_program at why (IsNoProgram.too_many limit f) = no_limit side text tree read within limit f
+
 module _ (taken : Intake) (text : List ℕ) (p : Listing) (h : IsProgramText taken text p) where
   pub accepted : (at : At) (why : List ℕ) → IsRefused taken text at why → ⊥
-  accepted at why (IsRefused.bad_token q f) = no_fault taken.side text h.tree h.read _ f
-  accepted at why (IsRefused.large_number q f) = no_fault taken.side text h.tree h.read _ f
-  accepted at why (IsRefused.too_deep q f) = no_parse_fault taken.side text h.tree h.read _ f
-  accepted at why (IsRefused.outside word q f) = no_parse_fault taken.side text h.tree h.read _ f
-  accepted at why (IsRefused.bad_syntax q f) = no_parse_fault taken.side text h.tree h.read _ f
-  accepted at why (IsRefused.no_main q f) = no_name_fault taken.side text h.tree h.read h.sense _ f
-  accepted at why (IsRefused.reserved q f) = no_name_fault taken.side text h.tree h.read h.sense _ f
-  accepted at why (IsRefused.output_only q f) = no_name_fault taken.side text h.tree h.read h.sense _ f
-  accepted at why (IsRefused.twice q f) = no_name_fault taken.side text h.tree h.read h.sense _ f
-  accepted at why (IsRefused.unknown q f) = no_name_fault taken.side text h.tree h.read h.sense _ f
-  accepted at why (IsRefused.wrong_type q f) = no_name_fault taken.side text h.tree h.read h.sense _ f
-  accepted at why (IsRefused.bad_thread q f) = no_name_fault taken.side text h.tree h.read h.sense _ f
-  accepted at why (IsRefused.recursion q f) = no_name_fault taken.side text h.tree h.read h.sense _ f
+  accepted at why (IsRefused.no_program n) = is_program taken.side text h.tree h.read h.sense h.within at why n
   accepted at why (IsRefused.not_built f) = f.not_built (subst taken.IsBuilt (one_tree taken.side text h.tree f.tree h.read f.read) h.built)
 
   pub not_refused : (status : Status) (out : List ℕ) → Refusing taken text status out → ⊥
@@ -85,10 +97,29 @@ module _ (taken : Intake) (text : List ℕ) (p : Listing) (h : IsProgramText tak
 
 -- ---- what a fault says
 
--- a fault that says why the text is refused refuses it
+-- a fault that says why the text is no program rejects it
+pub rejects : (text : List ℕ) (at : At) (why : List ℕ) (fault : ProgramFault) → IsNoProgram Source text at why → Says fault at why → Rejects text fault
+rejects text at why (program_fault.Refused r) h s = rw (s.0, s.1) h
+rejects text at why program_fault.NoMemory h s = tt
+
+-- and one that says why the text is refused refuses it
 pub refuses : (text : List ℕ) (at : At) (why : List ℕ) (fault : ProgramFault) → IsRefused small_source text at why → Says fault at why → Refuses text fault
 refuses text at why (program_fault.Refused r) h s = rw (s.0, s.1) h
 refuses text at why program_fault.NoMemory h s = tt
+
+-- a text that is no program is refused
+pub rejected : (text : List ℕ) (fault : ProgramFault) → Rejects text fault → Refuses text fault
+rejected text (program_fault.Refused r) h = IsRefused.no_program h
+rejected text program_fault.NoMemory h = tt
+
+-- what a fault tells is the answer
+pub refuses_small : (text : List ℕ) (fault : ProgramFault) (s : Status) (out : List ℕ) → Tells fault s out → Refuses text fault → Refusing small_source text s out
+refuses_small text (program_fault.Refused r) s out t h = rw (t.0, t.1) (Refusing.refused r.at (string_bytes r.why) h)
+refuses_small text program_fault.NoMemory s out t h = absurd t
+
+pub rejects_source : (text : List ℕ) (fault : ProgramFault) (s : Status) (out : List ℕ) → Tells fault s out → Rejects text fault → Refusing source text s out
+rejects_source text (program_fault.Refused r) s out t h = rw (t.0, t.1) (Refusing.refused r.at (string_bytes r.why) (IsRefused.no_program h))
+rejects_source text program_fault.NoMemory s out t h = absurd t
 
 -- a fault that is known, of tokens
 pub lexed : (text : List ℕ) (fault f : LexFault) → fault ≡ f → (f ≡ lex_fault.NoMemory → ⊥) → (fault ≢ lex_fault.NoMemory → IsFirstFault text fault) → IsFirstFault text f

@@ -11,7 +11,7 @@ use Rattle.mm_sched.specs.ScheduleText.{IsSchedule, entries_in}
 use Rattle.mm_run.specs.declared.command.Settings.{Settings}
 use Rattle.mm_run.specs.declared.command.Settings.TheVariants.{Instrument, ReplaySc, Replay}
 use Rattle.mm_run.specs.Parts.{IsSplit}
-use Rattle.mm_run.specs.Program.{Intake, IsProgramText, small_source}
+use Rattle.mm_run.specs.Program.{Intake, IsProgramText, small_source, source}
 
 -- a program and a schedule that is a run of it
 pub record IsRun (taken : Intake) (r : Rules) (input : List ℕ) : Type 0 where
@@ -28,8 +28,8 @@ pub record IsRun (taken : Intake) (r : Rules) (input : List ℕ) : Type 0 where
 -- the parts of the input are what the command asks for
 abbrev pub HasParts : Settings → List ℕ → Type 0
 HasParts (Instrument m bound) input = (p : Listing) × IsProgramText small_source input p
-HasParts ReplaySc input = IsRun small_source Sc input
-HasParts (Replay m bound) input = IsRun small_source (Buffered m bound) input
+HasParts ReplaySc input = IsRun source Sc input
+HasParts (Replay m bound) input = IsRun source (Buffered m bound) input
 
 -- the input is a text whose parts are what the command asks for
 pub record IsAccepted (s : Settings) (input : List ℕ) : Type 0 where

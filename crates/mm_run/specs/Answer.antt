@@ -21,7 +21,7 @@ use Rattle.mm_run.specs.Input.{IsWhole, IsTooLong}
 use Rattle.mm_run.specs.Lines.{refusal_line}
 use Rattle.mm_run.specs.Output.{AppendsPart}
 use Rattle.mm_run.specs.Parts.{IsNotUtf8, IsSplit, LacksPart}
-use Rattle.mm_run.specs.Program.{Intake, IsProgramText, IsRefused, small_source}
+use Rattle.mm_run.specs.Program.{Intake, IsProgramText, IsRefused, small_source, source}
 use Rattle.mm_run.specs.Outcome.{Outcome, TellsVerdict}
 
 -- ---- the woven program
@@ -95,8 +95,8 @@ Replays r p = Outcome r p TellsVerdict
 -- the status and the output for an input that is a text
 abbrev pub AnswersText : Settings → List ℕ → Status → List ℕ → Type 0
 AnswersText (Instrument m bound) = AnswersProgram small_source (PrintsWoven m bound)
-AnswersText ReplaySc = AnswersParts small_source (Replays Sc)
-AnswersText (Replay m bound) = AnswersParts small_source (Replays (Buffered m bound))
+AnswersText ReplaySc = AnswersParts source (Replays Sc)
+AnswersText (Replay m bound) = AnswersParts source (Replays (Buffered m bound))
 
 -- the status and the output for an input of at most the greatest length
 pub data AnswersWhole (s : Settings) (input : List ℕ) : Status → List ℕ → Type 0 where

@@ -1,5 +1,5 @@
 -- Which texts are programs for a command, and why and where another is refused.
-use Rattle.std.specs.Prelude.{ℕ, List, ◌++◌, codes}
+use Rattle.std.specs.Prelude.{◌≡◌, ℕ, List, ◌++◌, codes, Some, None}
 use Rattle.mm_goto.specs.declared.ident.At.{At}
 use Rattle.mm_goto.specs.declared.ident.Ident.{Ident}
 use Rattle.mm_goto.specs.Listing.{Listing}
@@ -10,7 +10,9 @@ use Rattle.mm_lexer.specs.Tokens.{AreTokens, IsFirstFault}
 use Rattle.mm_tree.specs.declared.item.Tree.{Tree}
 use Rattle.mm_tree.specs.declared.side.Side.{Side}
 use Rattle.mm_tree.specs.declared.side.Side.TheVariants.{Source}
-use Rattle.mm_flat.specs.Flattening.{IsFlat}
+use Rattle.mm_flow.specs.declared.fault.Limit.{Limit}
+use Rattle.mm_flow.specs.declared.fault.Limit.TheVariants.{Threads, NestedCalls, Instructions, Locals, Mutexes, Cells}
+use Rattle.mm_flow.specs.Programs.{limit_passed, program_of}
 use Rattle.mm_parse_expr.specs.declared.fault.ParseFault.{ParseFault}
 use Rattle.mm_parse_expr.specs.declared.fault.ParseFault.TheVariants.{TooDeep, OutsideProfile, BadSyntax}
 use Rattle.mm_parse.specs.Faults.{IsFault}
@@ -20,7 +22,7 @@ use Rattle.mm_names.specs.Programs.{IsAccepted as MakesSense, IsRefused as IsNam
 use Rattle.mm_small.specs.SmallProgram.{IsSmall}
 use Rattle.mm_grammar.specs.Meaning.{IsTreeOf}
 
--- what a command takes for a program: the side on which it reads the text, and which of the programs read there are built
+-- What a command takes for a program: the side on which it reads the text, and which of the programs read there are built.
 pub record Intake : Type 1 where
   pub side : Side
   pub IsBuilt : Tree → Type 0
@@ -29,13 +31,19 @@ pub record Intake : Type 1 where
 abbrev pub small_source : Intake
 small_source = record { side = Source; IsBuilt = IsSmall }
 
--- the text has the tree of a program whose names and types make sense and which is built, and flattened it is this goto program
+-- any source
+abbrev pub source : Intake
+source = record { side = Source; IsBuilt = λ tree. Unit {0} }
+
+-- The text has the tree of a program whose names and types make sense, which passes no limit and is built, and flattened it is
+-- this goto program.
 pub record IsProgramText (taken : Intake) (text : List ℕ) (p : Listing) : Type 0 where
   pub tree : Tree
   pub read : IsTreeOf taken.side text tree
   pub sense : MakesSense taken.side tree
+  pub within : limit_passed taken.side tree ≡ None
   pub built : taken.IsBuilt tree
-  pub flat : IsFlat taken.side tree p
+  pub flat : p ≡ program_of taken.side tree
 
 -- the text has tokens, and this is their fault
 pub record HasFault (side : Side) (text : List ℕ) (fault : ParseFault) : Type 0 where
@@ -49,52 +57,78 @@ pub record HasNameFault (side : Side) (text : List ℕ) (fault : NameFault) : Ty
   pub read : IsTreeOf side text tree
   pub fails : IsNameFault side tree fault
 
--- the text has the tree of a program that makes sense and is not built
+-- the text has the tree of a program that makes sense, and this is the first limit that it passes
+pub record PassesLimit (side : Side) (text : List ℕ) (limit : Limit) : Type 0 where
+  pub tree : Tree
+  pub read : IsTreeOf side text tree
+  pub sense : MakesSense side tree
+  pub passed : limit_passed side tree ≡ Some limit
+
+-- the text has the tree of a program that makes sense, passes no limit and is not built
 pub record IsNotBuilt (taken : Intake) (text : List ℕ) : Type 0 where
   pub tree : Tree
   pub read : IsTreeOf taken.side text tree
   pub sense : MakesSense taken.side tree
+  pub within : limit_passed taken.side tree ≡ None
   pub not_built : taken.IsBuilt tree → ⊥
 
--- the text is refused at the place, for what these words say, by the first of the stages that refuses it
-pub data IsRefused (taken : Intake) (text : List ℕ) : At → List ℕ → Type 0 where
+-- what is said of a limit that is passed
+abbrev pub limit_words : Limit → List ℕ
+limit_words Threads = codes "too many threads"
+limit_words NestedCalls = codes "too many nested calls"
+limit_words Instructions = codes "too many instructions"
+limit_words Locals = codes "too many locals"
+limit_words Mutexes = codes "too many mutexes"
+limit_words Cells = codes "too many cells"
+
+-- the text is no program: at the place, for what these words say, the first of the stages of reading refuses it
+pub data IsNoProgram (side : Side) (text : List ℕ) : At → List ℕ → Type 0 where
   bad_token : (at : At)
       → IsFirstFault text (BadToken at)
-      → IsRefused taken text at (codes "bad token")
+      → IsNoProgram side text at (codes "bad token")
   large_number : (at : At)
       → IsFirstFault text (NumberTooLarge at)
-      → IsRefused taken text at (codes "number too large")
+      → IsNoProgram side text at (codes "number too large")
   too_deep : (at : At)
-      → HasFault taken.side text (TooDeep at)
-      → IsRefused taken text at (codes "too deep")
+      → HasFault side text (TooDeep at)
+      → IsNoProgram side text at (codes "too deep")
   outside : (word : Ident) (at : At)
-      → HasFault taken.side text (OutsideProfile word at)
-      → IsRefused taken text at (codes "outside profile: " ++ word)
+      → HasFault side text (OutsideProfile word at)
+      → IsNoProgram side text at (codes "outside profile: " ++ word)
   bad_syntax : (at : At)
-      → HasFault taken.side text (BadSyntax at)
-      → IsRefused taken text at (codes "bad syntax")
+      → HasFault side text (BadSyntax at)
+      → IsNoProgram side text at (codes "bad syntax")
   no_main : (at : At)
-      → HasNameFault taken.side text (NoMain at)
-      → IsRefused taken text at (codes "no main")
+      → HasNameFault side text (NoMain at)
+      → IsNoProgram side text at (codes "no main")
   reserved : (at : At)
-      → HasNameFault taken.side text (ReservedName at)
-      → IsRefused taken text at (codes "reserved name")
+      → HasNameFault side text (ReservedName at)
+      → IsNoProgram side text at (codes "reserved name")
   output_only : (at : At)
-      → HasNameFault taken.side text (OutputOnly at)
-      → IsRefused taken text at (codes "output only")
+      → HasNameFault side text (OutputOnly at)
+      → IsNoProgram side text at (codes "output only")
   twice : (at : At)
-      → HasNameFault taken.side text (TwiceDeclared at)
-      → IsRefused taken text at (codes "declared twice")
+      → HasNameFault side text (TwiceDeclared at)
+      → IsNoProgram side text at (codes "declared twice")
   unknown : (at : At)
-      → HasNameFault taken.side text (UnknownName at)
-      → IsRefused taken text at (codes "unknown name")
+      → HasNameFault side text (UnknownName at)
+      → IsNoProgram side text at (codes "unknown name")
   wrong_type : (at : At)
-      → HasNameFault taken.side text (WrongType at)
-      → IsRefused taken text at (codes "wrong type")
+      → HasNameFault side text (WrongType at)
+      → IsNoProgram side text at (codes "wrong type")
   bad_thread : (at : At)
-      → HasNameFault taken.side text (BadThread at)
-      → IsRefused taken text at (codes "bad thread")
+      → HasNameFault side text (BadThread at)
+      → IsNoProgram side text at (codes "bad thread")
   recursion : (at : At)
-      → HasNameFault taken.side text (Recursion at)
-      → IsRefused taken text at (codes "recursion")
+      → HasNameFault side text (Recursion at)
+      → IsNoProgram side text at (codes "recursion")
+  too_many : (limit : Limit)
+      → PassesLimit side text limit
+      → IsNoProgram side text start (limit_words limit)
+
+-- the text is refused at the place, for what these words say: it is no program, or one that is not built
+pub data IsRefused (taken : Intake) (text : List ℕ) : At → List ℕ → Type 0 where
+  no_program : {at : At} {why : List ℕ}
+      → IsNoProgram taken.side text at why
+      → IsRefused taken text at why
   not_built : IsNotBuilt taken text → IsRefused taken text start (codes "not built")

@@ -1,8 +1,6 @@
-ghost use Rattle.std.specs.Prelude.{◌≡◌, ℕ, List, codes, IfOk, string_bytes};
-ghost use Rattle.mm_run.specs.Answer.{Refusing};
+ghost use Rattle.std.specs.Prelude.{◌≡◌, codes, IfOk, string_bytes};
 ghost use Rattle.mm_run.specs.Lines.{refusal_line};
-ghost use Rattle.mm_run.specs.Program.{small_source};
-ghost use Rattle.mm_run.specs.Refusal.{Refuses};
+ghost use Rattle.mm_run.specs.Refusal.{Tells};
 
 use crate::program::ProgramFault;
 use crate::status::Status;
@@ -30,7 +28,7 @@ pub fn refused(alloc: Global, at: At, why: &str) -> Result<Answer, NoMemory>
 
 /// The answer to the text of a program that is refused.
 pub fn answer_fault(alloc: Global, fault: ProgramFault) -> Result<Answer, NoMemory>
-    ensures { IfOk result (λ answer. (text : List ℕ) → Refuses text fault → Refusing small_source text answer.status (string_bytes answer.output)) }
+    ensures { IfOk result (λ answer. Tells fault answer.status (string_bytes answer.output)) }
 {
     match fault {
         ProgramFault::Refused(refusal) => refused(alloc, refusal.at, &refusal.why),

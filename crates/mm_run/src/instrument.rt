@@ -5,7 +5,7 @@ ghost use Rattle.mm_run.specs.Program.{IsProgramText, small_source};
 
 use crate::answer::{Answer, answer_fault};
 use crate::input::MAX_INPUT;
-use crate::program::program_of;
+use crate::program::small_program;
 use crate::status::Status;
 use mm_goto::{Bound, Model, NoMemory, Program};
 use mm_print::print_small;
@@ -32,7 +32,7 @@ pub fn answer_instrument(
     requires { length input.now ≤ MAX_INPUT }
     ensures { IfOk result (λ answer. AnswersProgram small_source (PrintsWoven model bound) input.now answer.status (string_bytes answer.output)) }
 {
-    match program_of(alloc, input) {
+    match small_program(alloc, input) {
         Ok(program) => Ok(Answer {
             status: Status::Done,
             output: weave(alloc, &program, model, bound)?,

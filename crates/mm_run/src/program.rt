@@ -1,20 +1,22 @@
-ghost use Rattle.std.specs.Prelude.{◌≡◌, ◌≢◌, ◌≤◌, ◌++◌, ℕ, List, length, codes, string_bytes, IfOk, IfErr};
-ghost use Rattle.mm_goto.specs.Sourcelike.{IsSourcelike};
+ghost use Rattle.std.specs.Prelude.{◌≡◌, ◌≢◌, ◌≤◌, ◌++◌, ℕ, List, length, codes, string_bytes, IfOk, IfErr, OnOk, None};
 ghost use Rattle.mm_goto.specs.Valid.{IsValid};
 ghost use Rattle.mm_lexer.specs.Tokens.{AreTokens, IsFirstFault};
 ghost use Rattle.mm_lexer.specs.declared.token.Token.{Token as TokenValue};
 ghost use Rattle.mm_tree.specs.declared.item.Tree.{Tree as TreeValue};
 ghost use Rattle.mm_grammar.specs.Meaning.{IsTreeOf};
-ghost use Rattle.mm_names.specs.Programs.{IsRefused as IsNameFault};
+ghost use Rattle.mm_goto.specs.Place.{start};
+ghost use Rattle.mm_flow.specs.Programs.{limit_passed, program_of as flattened};
+ghost use Rattle.mm_names.specs.Programs.{IsAccepted as MakesSense, IsRefused as IsNameFault};
 ghost use Rattle.mm_tree.specs.declared.side.Side.TheVariants.{Source};
 ghost use Rattle.mm_parse.specs.Faults.{IsFault};
-ghost use Rattle.mm_run.specs.Program.{IsProgramText, small_source};
-ghost use Rattle.mm_run.specs.Refusal.{Says, Refuses};
+ghost use Rattle.mm_run.specs.Program.{IsProgramText, limit_words, small_source, source};
+ghost use Rattle.mm_run.specs.Refusal.{Rejects, Refuses, Says};
 
 use crate::input::MAX_INPUT;
-use mm_goto::{At, NoMemory, Program};
+use mm_flat::{FlatFault, Limit, flatten};
+use mm_goto::{At, Program};
 use mm_lexer::{LexFault, lex};
-use mm_names::{NameFault, check_owned};
+use mm_names::{Checked, NameFault, check_owned};
 use mm_parse::{ParseFault, parse};
 use mm_small::{SmallFault, small};
 use mm_tree::{Side, Tree};
@@ -53,7 +55,7 @@ fn outside_profile(alloc: Global, at: At, word: &str) -> ProgramFault
 }
 
 fn unlexed(alloc: Global, fault: LexFault) -> ProgramFault
-    ensures { (text : List ℕ) → (fault ≢ LexFault.NoMemory → IsFirstFault text fault) → Refuses text result }
+    ensures { (text : List ℕ) → (fault ≢ LexFault.NoMemory → IsFirstFault text fault) → Rejects text result }
 {
     match fault {
         LexFault::BadToken(at) => refuse(alloc, at, "bad token"),
@@ -63,7 +65,7 @@ fn unlexed(alloc: Global, fault: LexFault) -> ProgramFault
 }
 
 fn unparsed(alloc: Global, fault: ParseFault) -> ProgramFault
-    ensures { (text : List ℕ) (tokens : List TokenValue) → AreTokens text tokens → (fault ≢ ParseFault.NoMemory → IsFault Source text tokens fault) → Refuses text result }
+    ensures { (text : List ℕ) (tokens : List TokenValue) → AreTokens text tokens → (fault ≢ ParseFault.NoMemory → IsFault Source text tokens fault) → Rejects text result }
 {
     match fault {
         ParseFault::TooDeep(at) => refuse(alloc, at, "too deep"),
@@ -74,7 +76,7 @@ fn unparsed(alloc: Global, fault: ParseFault) -> ProgramFault
 }
 
 fn senseless(alloc: Global, fault: NameFault) -> ProgramFault
-    ensures { (text : List ℕ) (tree : TreeValue) → IsTreeOf Source text tree → (fault ≢ NameFault.NoMemory → IsNameFault Source tree fault) → Refuses text result }
+    ensures { (text : List ℕ) (tree : TreeValue) → IsTreeOf Source text tree → (fault ≢ NameFault.NoMemory → IsNameFault Source tree fault) → Rejects text result }
 {
     match fault {
         NameFault::NoMain(at) => refuse(alloc, at, "no main"),
@@ -93,7 +95,7 @@ fn senseless(alloc: Global, fault: NameFault) -> ProgramFault
 fn tree_of(alloc: Global, text: &str) -> Result<Tree, ProgramFault>
     requires { length text.now ≤ MAX_INPUT }
     ensures tree { IfOk result (λ tree. IsTreeOf Source text.now tree) }
-    ensures refused { IfErr result (λ fault. Refuses text.now fault) }
+    ensures refused { IfErr result (λ fault. Rejects text.now fault) }
 {
     let tokens = match lex(alloc, text) {
         Ok(tokens) => tokens,
@@ -105,20 +107,68 @@ fn tree_of(alloc: Global, text: &str) -> Result<Tree, ProgramFault>
     }
 }
 
-/// The goto program of a text, or why it is refused: by the first of these stages that refuses it: tokens, nesting, the
-/// grammar, names and types, and what is built.
-pub fn program_of(alloc: Global, text: &str) -> Result<Program, ProgramFault>
+fn too_large(alloc: Global, limit: Limit) -> ProgramFault
+    ensures { Says result start (limit_words limit) }
+{
+    let why = match limit {
+        Limit::Threads => "too many threads",
+        Limit::NestedCalls => "too many nested calls",
+        Limit::Instructions => "too many instructions",
+        Limit::Locals => "too many locals",
+        Limit::Mutexes => "too many mutexes",
+        Limit::Cells => "too many cells",
+    };
+    refuse(alloc, At::start(), why)
+}
+
+/// The tree of a source that makes sense, or why the text is none.
+fn checked_tree(alloc: Global, text: &str) -> Result<Checked, ProgramFault>
+    requires { length text.now ≤ MAX_INPUT }
+    ensures read { IfOk result (λ checked. IsTreeOf Source text.now checked.tree) }
+    ensures sense { IfOk result (λ checked. MakesSense Source checked.tree) }
+    ensures refused { IfErr result (λ fault. Rejects text.now fault) }
+{
+    let tree = tree_of(alloc, text)?;
+    match check_owned(alloc, tree, Side::Source) {
+        Ok(checked) => Ok(checked),
+        Err(fault) => Err(senseless(alloc, fault)),
+    }
+}
+
+/// The goto program of a tree, or which limit it passes.
+fn flat(alloc: Global, tree: &Tree) -> Result<Program, ProgramFault>
+    ensures program { IfOk result (λ p. p ≡ flattened Source tree.now) }
+    ensures within { OnOk result (limit_passed Source tree.now ≡ None) }
+    ensures refused { IfErr result (λ fault. (text : List ℕ) → IsTreeOf Source text tree.now → MakesSense Source tree.now → Rejects text fault) }
+{
+    match flatten(alloc, tree, Side::Source) {
+        Ok(program) => Ok(program),
+        Err(FlatFault::TooMany(limit)) => Err(too_large(alloc, limit)),
+        Err(FlatFault::NoMemory) => Err(ProgramFault::NoMemory),
+    }
+}
+
+/// The goto program of a source, or why the text is none: by the first of these stages that refuses it: tokens, nesting, the
+/// grammar, names and types, and limits.
+pub fn source_program(alloc: Global, text: &str) -> Result<Program, ProgramFault>
+    requires { length text.now ≤ MAX_INPUT }
+    ensures program { IfOk result (λ program. IsProgramText source text.now program) }
+    ensures refused { IfErr result (λ fault. Rejects text.now fault) }
+{
+    let checked = checked_tree(alloc, text)?;
+    flat(alloc, &checked.tree)
+}
+
+/// The goto program of a small program, or why the text is refused: by the first of the stages of a source that refuses it, or as
+/// not built.
+pub fn small_program(alloc: Global, text: &str) -> Result<Program, ProgramFault>
     requires { length text.now ≤ MAX_INPUT }
     ensures program { IfOk result (λ program. IsProgramText small_source text.now program) }
     ensures valid { IfOk result IsValid }
-    ensures sourcelike { IfOk result IsSourcelike }
     ensures refused { IfErr result (λ fault. Refuses text.now fault) }
 {
-    let tree = tree_of(alloc, text)?;
-    let checked = match check_owned(alloc, tree, Side::Source) {
-        Ok(checked) => checked,
-        Err(fault) => return Err(senseless(alloc, fault)),
-    };
+    let checked = checked_tree(alloc, text)?;
+    flat(alloc, &checked.tree)?;
     match small(alloc, &checked.tree) {
         Ok(program) => Ok(program),
         Err(SmallFault::NotBuilt) => Err(refuse(alloc, At::start(), "not built")),

@@ -35,15 +35,17 @@ use Rattle.mm_tree.specs.declared.item.Item.TheVariants as item
 use Rattle.mm_tree.specs.declared.item.Param.{Param}
 use Rattle.mm_tree.specs.declared.item.Tree.{Tree}
 use Rattle.mm_tree.specs.declared.side.Side.TheVariants.{Source}
-use Rattle.mm_flat.specs.Flattening as flat
-use Rattle.mm_flat.specs.Flattening.{Placed, placed, Known, Around, IsValue, IsCode, AreCode, AreCells, IsFlat, IsMain, int_global, main_item}
+use Rattle.mm_flow.specs.Programs.{program_of}
+use Rattle.mm_small_code.specs.reading.Flattening as flat
+use Rattle.mm_small_code.specs.reading.Flattening.{Placed, placed, Known, Around, IsValue, IsCode, AreCode, AreCells, IsFlat, IsMain, int_global, main_item}
+use Rattle.mm_small_code.proofs.Equations.{by_the_equations}
 use Rattle.mm_tree.specs.Trees.{expr, statement, named_left, place_of, node_of}
 use Rattle.mm_small.specs.declared.tree.Statement.{Statement}
 use Rattle.mm_small.specs.declared.tree.Statement.TheVariants as small
 use Rattle.mm_small.specs.declared.tree.Small.{Small}
 use Rattle.mm_small.specs.declared.tree.Body.{Body}
 use Rattle.mm_small.specs.SmallTree as shape
-use Rattle.mm_small.specs.SmallTree.{small_of}
+use Rattle.mm_small.specs.SmallTree.{small_of, IsWithinLimits}
 use Rattle.mm_small.specs.Flat.{reads, asserts, equals, statement_code, statement_places, body_code, body_places, main_of, cell, listing_of}
 
 -- ---- nodes by their outermost layers
@@ -303,9 +305,9 @@ main_flat s body r = record {
   locals = omega (arith, next_behind 0 0 s.body);
 }
 
--- the program is the flattening of the tree
-pub small_flat : (tree : Tree) (s : Small) → small_of tree ≡ Some s → IsFlat Source tree (listing_of s)
-small_flat tree s h =
+-- the program is the flattening of the tree, case by case
+small_flat : (tree : Tree) (s : Small) → small_of tree ≡ Some s → IsWithinLimits s → IsFlat Source tree (listing_of s)
+small_flat tree s h w =
     option_and_then_some (λ vs. option_and_then (shape.main_of vs) (shape.last_item tree.items)) (shape.variables_in tree.items) s h (λ vs i k.
     option_and_then_some (shape.main_of vs) (shape.last_item tree.items) s k (λ last j m. by vs last j i (last_item_read vs last s m)))
   where
@@ -315,7 +317,12 @@ small_flat tree s h =
       body = r.body;
       thread = main_of s;
       cells = subst (λ (i : Item). AreCells tree.items (map cell s.variables) (i ∷ [])) r.main (items_read tree.items s.variables last j (i ∙ ap Some r.variables));
+      few = rw length-map (omega (arith, w.variables.few));
       mutexes = refl;
       main = main_flat s r.body (body_read s.variables r.body (record { statements = s.body; return_at = s.return_at }) r.read);
       threads = refl;
     }
+
+-- and so by the equations
+pub small_program : (tree : Tree) (s : Small) → small_of tree ≡ Some s → IsWithinLimits s → listing_of s ≡ program_of Source tree
+small_program tree s h w = by_the_equations Source tree (listing_of s) (small_flat tree s h w)

@@ -4,7 +4,7 @@ ghost use Rattle.mm_goto.specs.Sourcelike.{IsSourcelike};
 ghost use Rattle.mm_goto.specs.Valid.{IsValid};
 ghost use Rattle.mm_small.specs.declared.program.SmallFault.TheVariants.{NoMemory as MemoryFault};
 ghost use Rattle.mm_tree.specs.declared.side.Side.TheVariants.{Source};
-ghost use Rattle.mm_flat.specs.Flattening.{IsFlat};
+ghost use Rattle.mm_flow.specs.Programs.{program_of};
 ghost use Rattle.mm_small.specs.SmallProgram.{IsSmall};
 
 use super::flatten::program_of;
@@ -33,7 +33,7 @@ impl From<NoMemory> for SmallFault {
 /// The goto program of a small program's tree.
 pub fn small(alloc: Global, tree: &Tree) -> Result<Program, SmallFault>
     ensures small { IfOk result (λ program. IsSmall tree.now) }
-    ensures program { IfOk result (λ program. IsFlat Source tree.now program) }
+    ensures program { IfOk result (λ program. program ≡ program_of Source tree.now) }
     ensures valid { IfOk result IsValid }
     ensures sourcelike { IfOk result IsSourcelike }
     ensures not_built { IsErrOf result SmallFault.NotBuilt → IsSmall tree.now → ⊥ }

@@ -1,0 +1,13 @@
+//! Structured code: what the statements of a text mean, before their instructions have places. The code of expressions, and of
+//! what statements access, as it is made.
+#![tactic(auto)]
+
+pub mod assembler;
+pub mod checks;
+pub mod context;
+pub mod expressions;
+pub mod fault;
+pub mod lefts;
+pub mod mentions;
+pub mod names;
+pub mod words;

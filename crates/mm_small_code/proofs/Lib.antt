@@ -1,0 +1,7 @@
+pub mod Equations
+mod EquationsItems
+mod EquationsLayers
+mod EquationsNames
+mod EquationsStatements
+mod EquationsSteps
+mod EquationsValues

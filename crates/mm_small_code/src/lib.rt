@@ -1,0 +1,4 @@
+//! The flattening of a small program's tree, case by case.
+#![tactic(auto)]
+
+pub mod laws;

@@ -1,0 +1,4 @@
+//! Which programs flattening gives: laws that join names, types and flattening.
+#![tactic(auto)]
+
+pub mod laws;
