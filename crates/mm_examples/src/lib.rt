@@ -1,4 +1,4 @@
-//! Examples that cross the crates: inputs that are too long for a case, and programs and schedules that no command shows.
+//! Tests that cross the crates, where no case does: inputs that are too long for one, and schedules that no command writes.
 #![tactic(auto)]
 
 #[cfg(test)]
@@ -7,5 +7,3 @@ mod hostile;
 mod outside;
 #[cfg(test)]
 mod schedules;
-#[cfg(test)]
-mod store_buffering;

@@ -13,7 +13,8 @@ use Rattle.mm_goto.specs.declared.program.Instr.{Instr}
 use Rattle.mm_goto.specs.declared.program.Instr.TheVariants.{Set, Load, Store, Input, Jump, Branch, Assert, Assume, Fence, Lock, Unlock, Add, Cas, Start, Join, AtomBegin, AtomEnd, End}
 use Rattle.mm_goto.specs.declared.program.Cell.{Cell}
 use Rattle.mm_goto.specs.Listing.{Listing}
-use Rattle.mm_goto.specs.Locals.{Row, rows_of}
+use Rattle.mm_goto.specs.declared.row.Row.{Row}
+use Rattle.mm_goto.specs.Locals.{rows_of}
 use Rattle.mm_goto.specs.Value.{is_zero}
 
 -- what an expression can be called: the number 0 is both

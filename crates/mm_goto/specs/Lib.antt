@@ -1,5 +1,6 @@
 pub mod Bounds
 pub mod Checks
+pub mod DelayCycles
 pub mod Flow
 pub mod Kinds
 pub mod Listing
@@ -7,7 +8,11 @@ pub mod Locals
 pub mod Models
 pub mod Names
 pub mod Parts
+pub mod Paths
 pub mod Place
+pub mod PointsTo
+pub mod Shapes
+pub mod Sites
 pub mod Sourcelike
 pub mod Terms
 pub mod Valid

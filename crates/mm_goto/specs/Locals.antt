@@ -3,6 +3,7 @@ use Rattle.std.specs.Prelude.{ℕ, ◌+◌, nat_lt, if◌then◌else◌, List, [
 use Rattle.mm_goto.specs.declared.pure.Pure.{Pure}
 use Rattle.mm_goto.specs.declared.pure.Pure.TheOpen.{Pure-F, Const, Local, Addr, AddrElem, Un, Bin, Cond}
 use Rattle.mm_goto.specs.declared.pure.Pure.TheFolds.{fold-Pure}
+use Rattle.mm_goto.specs.declared.row.Row.{Row}
 
 abbrev pub larger : ℕ → ℕ → ℕ
 larger m n = if nat_lt m n then n else m
@@ -19,11 +20,6 @@ local_bound_step (Cond c x y) = larger c (larger x y)
 -- one more than the greatest local that the expression names, and 0 where it names none
 abbrev pub local_bound : Pure → ℕ
 local_bound = fold-Pure ℕ local_bound_step
-
--- cells that stand in a row: the first, and how many they are
-pub record Row : Type 0 where
-  pub first : ℕ
-  pub len : ℕ
 
 abbrev pub rows_step : Pure-F (List Row) → List Row
 rows_step (Const c) = []

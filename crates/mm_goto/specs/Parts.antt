@@ -5,7 +5,8 @@ use Rattle.mm_goto.specs.declared.pure.Binary.TheVariants as binary
 use Rattle.mm_goto.specs.declared.pure.Pure.{Pure}
 use Rattle.mm_goto.specs.declared.pure.Pure.TheOpen as pure
 use Rattle.mm_goto.specs.declared.pure.Pure.TheFolds.{fold-Pure}
-use Rattle.mm_goto.specs.Locals.{Row, larger}
+use Rattle.mm_goto.specs.declared.row.Row.{Row}
+use Rattle.mm_goto.specs.Locals.{larger}
 
 abbrev pub nodes_step : pure.Pure-F ℕ → ℕ
 nodes_step (pure.Const c) = 1

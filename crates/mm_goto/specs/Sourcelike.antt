@@ -14,7 +14,7 @@ use Rattle.mm_goto.specs.Checks.{DividesInTime, checks_of, target_checks, names,
 use Rattle.mm_goto.specs.Flow.{IsFlow}
 use Rattle.mm_goto.specs.Kinds.{IsCellTyped, IsInstrTyped, NamesInts}
 use Rattle.mm_goto.specs.Listing.{Listing}
-use Rattle.mm_goto.specs.Locals.{Row}
+use Rattle.mm_goto.specs.declared.row.Row.{Row}
 use Rattle.mm_goto.specs.Names.{IsDeclarable}
 use Rattle.mm_goto.specs.Parts.{addressed, arrays_of, levels, nodes, numbers}
 use Rattle.mm_goto.specs.Valid.{IsValid, code_of}

@@ -12,7 +12,8 @@ use Rattle.mm_goto.specs.declared.program.Instr.TheVariants.{Set, Load, Store, I
 use Rattle.mm_goto.specs.declared.program.Cell.{Cell}
 use Rattle.mm_goto.specs.declared.program.Thread.{Thread}
 use Rattle.mm_goto.specs.Listing.{Listing}
-use Rattle.mm_goto.specs.Locals.{Row, local_bound, rows_of}
+use Rattle.mm_goto.specs.declared.row.Row.{Row}
+use Rattle.mm_goto.specs.Locals.{local_bound, rows_of}
 use Rattle.mm_goto.specs.Parts.{numbers}
 
 -- an int has 32 bits

@@ -8,7 +8,9 @@ mod list;
 mod model;
 mod program;
 mod pure;
+mod row;
 mod shape;
+mod spot;
 pub mod text;
 mod value;
 
@@ -18,5 +20,7 @@ pub use list::List;
 pub use model::Model;
 pub use program::{Cell, Instr, Program, Target, Thread};
 pub use pure::{Binary, Pure, Unary};
+pub use row::Row;
 pub use shape::{Head, Note, Shape};
+pub use spot::Spot;
 pub use value::eval;

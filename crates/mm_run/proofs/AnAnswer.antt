@@ -64,7 +64,7 @@ use Rattle.mm_names.proofs.Decided.{each}
 use Rattle.mm_run.specs.Lines.{refusal_line, verdict_line}
 use Rattle.mm_run.specs.Outcome.{IsStuckBehind, Outcome, TellsVerdict}
 use Rattle.mm_run.specs.Parts.{IsNotUtf8, IsParting, IsSplit, LacksPart}
-use Rattle.mm_run.specs.Program.{Intake, IsNoProgram, IsProgramText, IsRefused, limit_words, small_source, source}
+use Rattle.mm_run.specs.Program.{Intake, IsNoProgram, IsProgramText, IsRefused, any, limit_words, run_by, side_for, small_source}
 use Rattle.mm_run.specs.Settings.{IsThere}
 use Rattle.mm_run.proofs.Alike.{is_listing, is_woven}
 
@@ -262,9 +262,9 @@ known side text = ⊎_elim
     (λ f. inr (unlexed_refuses side text f.0 f.1))
     (tokens_and_fault text)
 
-of_source : (text : List ℕ) → IsKnown Source text → ((p : Listing) × IsProgramText source text p) ⊎ HasRefusal source text
-of_source text (inl k) = inl (program_of Source k.0, record { tree = k.0; read = k.1; sense = k.2; within = k.3; built = tt; flat = refl })
-of_source text (inr n) = inr (n.0, n.1, IsRefused.no_program n.2)
+of_any : (side : Side) (text : List ℕ) → IsKnown side text → ((p : Listing) × IsProgramText (any side) text p) ⊎ HasRefusal (any side) text
+of_any side text (inl k) = inl (program_of side k.0, record { tree = k.0; read = k.1; sense = k.2; within = k.3; built = tt; flat = refl })
+of_any side text (inr n) = inr (n.0, n.1, IsRefused.no_program n.2)
 
 small_or_refused : (text : List ℕ) (tree : Tree) → IsTreeOf Source text tree → MakesSense Source tree → limit_passed Source tree ≡ None → IsSmall tree ⊎ (IsSmall tree → ⊥) → ((p : Listing) × IsProgramText small_source text p) ⊎ HasRefusal small_source text
 small_or_refused text tree read sense within (inl s) = inl (program_of Source tree, record { tree = tree; read = read; sense = sense; within = within; built = s; flat = refl })
@@ -328,12 +328,12 @@ woven_answers m bound b input = ⊎_elim
     valid : (p : Listing) → IsProgramText small_source input p → IsValid p
     valid p h = subst IsValid (sym (is_listing h.tree p h.built h.flat)) (listing_valid h.built.small h.built.within)
 
-parts_answer : (r : Rules) (input : List ℕ) → IsAnswered (AnswersParts source (Replays r) input)
+parts_answer : (r : Rules) (input : List ℕ) → IsAnswered (AnswersParts (run_by r) (Replays r) input)
 parts_answer r input = ⊎_elim
     (λ s. ⊎_elim
     (λ h. let a = replay_answers r h.0 s.1 in (a.0, a.1, AnswersParts.both s.0 s.1 h.0 s.2 h.1 a.2))
     (λ h. (Refused, refusal_line h.0 h.1, AnswersParts.refused s.0 s.1 s.2 (Refusing.refused h.0 h.1 h.2)))
-    (of_source s.0 (known Source s.0)))
+    (of_any (side_for r s.0) s.0 (known (side_for r s.0) s.0)))
     (λ l. (Refused, _, AnswersParts.one_part l))
     (split_or_not input)
 

@@ -12,7 +12,7 @@ use Rattle.mm_run.specs.declared.command.Settings.{Settings}
 use Rattle.mm_run.specs.declared.command.Settings.TheVariants.{Instrument, ReplaySc, Replay}
 use Rattle.mm_run.specs.declared.status.Status.{Status}
 use Rattle.mm_run.specs.declared.status.Status.TheVariants.{Done, Words, ReadFault, TooLong, Refused, BadSchedule, Stuck, NotFailing, WriteFault, NoMemory}
-use Rattle.mm_run.specs.Program.{Intake, small_source, source}
+use Rattle.mm_run.specs.Program.{Intake, run_by, small_source}
 use Rattle.mm_run.specs.Outcome.{Outcome, TellsVerdict}
 use Rattle.mm_run.specs.Answer.{AnswersParts, AnswersProgram, AnswersText, AnswersWhole, PrintsWoven, Refusing, Replays, Responds, IsOfInput, Writes, BreaksOff, Ends}
 use Rattle.mm_run.specs.Output.{AppendsPart}
@@ -30,9 +30,9 @@ of_replay r p schedule status out (Outcome.bad k s) = tt
 of_replay r p schedule status out (Outcome.stuck lines k s e) = tt
 of_replay r p schedule status out (Outcome.ends lines last s e v) = of_verdict (entries_in lines) last status out v
 
-of_parts : (r : Rules) (input : List ℕ) (status : Status) (out : List ℕ) → AnswersParts source (Replays r) input status out → IsOfInput status
+of_parts : (r : Rules) (input : List ℕ) (status : Status) (out : List ℕ) → AnswersParts (run_by r) (Replays r) input status out → IsOfInput status
 of_parts r input status out (AnswersParts.one_part l) = tt
-of_parts r input status out (AnswersParts.refused program schedule s h) = of_refusal source program status out h
+of_parts r input status out (AnswersParts.refused program schedule s h) = of_refusal (run_by r program) program status out h
 of_parts r input status out (AnswersParts.both program schedule p s m h) = of_replay r p schedule status out h
 
 of_woven : (m : Model) (bound : Bounding) (p : Listing) (status : Status) (out : List ℕ) → PrintsWoven m bound p status out → IsOfInput status

@@ -14,7 +14,7 @@ use Rattle.mm_run.specs.declared.status.Status.TheVariants.{Done, Refused, TooLo
 use Rattle.mm_run.specs.Input.{IsWhole, IsTooLong}
 use Rattle.mm_run.specs.Lines.{refusal_line}
 use Rattle.mm_run.specs.Parts.{IsNotUtf8, LacksPart}
-use Rattle.mm_run.specs.Program.{Intake, IsProgramText, IsRefused, small_source, source}
+use Rattle.mm_run.specs.Program.{Intake, IsProgramText, IsRefused, run_by, small_source}
 use Rattle.mm_run.specs.Answer.{AnswersInput, AnswersParts, AnswersProgram, AnswersText, AnswersWhole, IsWoven, PrintsWoven, Refusing, Replays, Responds}
 
 pub if_ok : {A E : Type 0} (P Q : A → Type 0) (r : Result A E) → IfOk r P → ((a : A) → P a → Q a) → IfOk r Q
@@ -47,7 +47,7 @@ module _ (status : Status) (out : List ℕ) where
   pub has_text : (s : Settings) (input text : List ℕ) → IsUtf8 input → text ≡ input → AnswersText s text status out → AnswersWhole s input status out
   has_text s input text u e h = AnswersWhole.text u (rw (sym e) h)
 
-  pub one_part : (r : Rules) (input : List ℕ) → LacksPart input → status ≡ Refused → out ≡ refusal_line (place_after (chars input)) (codes "missing part") → AnswersParts source (Replays r) input status out
+  pub one_part : (r : Rules) (input : List ℕ) → LacksPart input → status ≡ Refused → out ≡ refusal_line (place_after (chars input)) (codes "missing part") → AnswersParts (run_by r) (Replays r) input status out
   one_part r input h s o = rw (s, o) (AnswersParts.one_part h)
 
   pub responds_whole : (s : Settings) (old new : Option (List ℕ)) (bytes read : List ℕ) → IsWhole old new bytes → read ≡ bytes → AnswersWhole s read status out → Responds s old new status out

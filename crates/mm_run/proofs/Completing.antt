@@ -9,6 +9,7 @@ use Rattle.mm_goto.specs.Bounds.{Bounding}
 use Rattle.mm_goto.specs.Listing.{Listing}
 use Rattle.mm_sched.specs.declared.entry.Entry.{Entry}
 use Rattle.mm_sched.specs.declared.entry.Rules.{Rules}
+use Rattle.mm_sched.specs.declared.entry.Rules.TheVariants.{Sc, Buffered}
 use Rattle.mm_sched.specs.State.{State, initial}
 use Rattle.mm_sched.specs.Event.{next}
 use Rattle.mm_sched.specs.Runs.{run}
@@ -21,7 +22,7 @@ use Rattle.mm_run.specs.declared.status.Status.{Status}
 use Rattle.mm_run.specs.Accepted.{HasParts, IsAccepted, IsRun}
 use Rattle.mm_run.specs.Input.{IsTooLong}
 use Rattle.mm_run.specs.Parts.{IsSplit}
-use Rattle.mm_run.specs.Program.{Intake, IsProgramText, small_source, source}
+use Rattle.mm_run.specs.Program.{Intake, IsProgramText, run_by, small_source}
 use Rattle.mm_run.specs.Outcome.{IsStuckBehind, Outcome, TellsVerdict}
 use Rattle.mm_run.specs.Answer.{AnswersInput, AnswersParts, AnswersProgram, AnswersText, AnswersWhole, PrintsWoven, Replays, Responds, IsDoneOrKept}
 use Rattle.mm_run.proofs.Answering.{input_responds}
@@ -71,7 +72,7 @@ no_other_end r p from last es k e s =
     let none : run r p from es ≡ None = ahead ∙ ap (λ (o : Option State). option_and_then (λ mid. run r p mid s.behind) o) s.stuck in
     cc
 
-module _ (taken : Intake) (r : Rules) (input : List ℕ) (h : IsRun taken r input) where
+module _ (taken : List ℕ → Intake) (r : Rules) (input : List ℕ) (h : IsRun taken r input) where
   replayed : (p : Listing) (schedule : List ℕ) (status : Status) (out : List ℕ) → p ≡ h.listing → schedule ≡ h.schedule → Replays r p schedule status out → IsDoneOrKept status
   replayed p schedule status out same_program same_schedule (Outcome.ends lines last s e v) = told (entries_in lines) last status out v
     where
@@ -86,10 +87,10 @@ module _ (taken : Intake) (r : Rules) (input : List ℕ) (h : IsRun taken r inpu
   parts status out (AnswersParts.one_part lacks) = absurd (lacks _ h.split.parting)
   parts status out (AnswersParts.refused program schedule s no_program) =
       let same : program ≡ h.program = one_front input program h.program schedule h.schedule s h.split in
-      absurd (not_refused taken h.program h.listing h.accepted status out (rw (sym same) no_program))
+      absurd (not_refused (taken h.program) h.program h.listing h.accepted status out (rw (sym same) no_program))
   parts status out (AnswersParts.both program schedule p s small e) =
       let same : program ≡ h.program = one_front input program h.program schedule h.schedule s h.split in
-      replayed p schedule status out (one_program taken h.program p h.listing (rw (sym same) small) h.accepted) (one_back input program h.program schedule h.schedule s h.split) e
+      replayed p schedule status out (one_program (taken h.program) h.program p h.listing (rw (sym same) small) h.accepted) (one_back input program h.program schedule h.schedule s h.split) e
 
 instrumented : (m : Model) (bound : Bounding) (input : List ℕ) (p : Listing) → IsProgramText small_source input p → (status : Status) (out : List ℕ) → AnswersProgram small_source (PrintsWoven m bound) input status out → IsDoneOrKept status
 instrumented m bound input p h status out (AnswersProgram.refused r) = absurd (not_refused small_source input p h status out r)
@@ -102,8 +103,8 @@ instrumented m bound input p h status out (AnswersProgram.program q k w) = print
 
 done_text : (s : Settings) (input : List ℕ) (status : Status) (out : List ℕ) → HasParts s input → AnswersText s input status out → IsDoneOrKept status
 done_text (Instrument m bound) input status out h a = instrumented m bound input h.0 h.1 status out a
-done_text ReplaySc input status out h a = parts source _ input h status out a
-done_text (Replay m bound) input status out h a = parts source _ input h status out a
+done_text ReplaySc input status out h a = parts (run_by Sc) Sc input h status out a
+done_text (Replay m bound) input status out h a = parts (run_by (Buffered m bound)) (Buffered m bound) input h status out a
 
 done_whole : (s : Settings) (input : List ℕ) (status : Status) (out : List ℕ) → IsAccepted s input → AnswersWhole s input status out → IsDoneOrKept status
 done_whole s input status out h (AnswersWhole.no_text at n) = absurd (is_text input n.front h.text n.longest)

@@ -16,7 +16,7 @@ use Rattle.mm_run.specs.Answer.{AnswersParts, AnswersProgram, AnswersText, Answe
 use Rattle.mm_run.specs.Lines.{refusal_line}
 use Rattle.mm_run.specs.Parts.{IsNotUtf8, IsSplit}
 use Rattle.mm_run.specs.Outcome.{TellsVerdict}
-use Rattle.mm_run.specs.Program.{Intake, IsProgramText, small_source, source}
+use Rattle.mm_run.specs.Program.{Intake, IsProgramText, run_by, small_source}
 use Rattle.mm_run.proofs.Completing.{is_text, one_back, one_front}
 use Rattle.mm_run.proofs.Refused.{not_refused, one_program}
 use Rattle.mm_run.proofs.OneAnswerCause.{one_refusing}
@@ -48,16 +48,16 @@ module _ (taken : Intake) (Gives : ProgramAnswer) (one : (p : Listing) (a b : St
   one_of_program a b out text (AnswersProgram.refused h) (AnswersProgram.refused k) = one_refusing taken input a b out text h k
 
 -- and the parts of an input are one program and one schedule
-module _ (taken : Intake) (Gives : ScheduleAnswer) (one : (p : Listing) (schedule : List ℕ) (a b : Status) (out text : List ℕ) → Gives p schedule a out → Gives p schedule b text → (a ≡ b) × (out ≡ text)) (input : List ℕ) where
-  one_way : (p q s t : List ℕ) (n : Listing) (status : Status) (out : List ℕ) → IsSplit input p s → IsSplit input q t → Refusing taken p status out → IsProgramText taken q n → ⊥
-  one_way p q s t n status out h k u v = not_refused taken q n v status out (subst (λ (x : List ℕ). Refusing taken x status out) (one_front input p q s t h k) u)
+module _ (taken : List ℕ → Intake) (Gives : ScheduleAnswer) (one : (p : Listing) (schedule : List ℕ) (a b : Status) (out text : List ℕ) → Gives p schedule a out → Gives p schedule b text → (a ≡ b) × (out ≡ text)) (input : List ℕ) where
+  one_way : (p q s t : List ℕ) (n : Listing) (status : Status) (out : List ℕ) → IsSplit input p s → IsSplit input q t → Refusing (taken p) p status out → IsProgramText (taken q) q n → ⊥
+  one_way p q s t n status out h k u v = not_refused (taken q) q n v status out (subst (λ (x : List ℕ). Refusing (taken x) x status out) (one_front input p q s t h k) u)
 
   one_of_parts : (a b : Status) (out text : List ℕ) → AnswersParts taken Gives input a out → AnswersParts taken Gives input b text → (a ≡ b) × (out ≡ text)
   one_of_parts a b out text (AnswersParts.one_part h) (AnswersParts.one_part k) = (refl, refl)
   one_of_parts a b out text (AnswersParts.refused p s h u) (AnswersParts.refused q t k v) =
-      one_refusing taken p a b out text u (subst (λ (x : List ℕ). Refusing taken x b text) (one_front input q p t s k h) v)
+      one_refusing (taken p) p a b out text u (subst (λ (x : List ℕ). Refusing (taken x) x b text) (one_front input q p t s k h) v)
   one_of_parts a b out text (AnswersParts.both p s m h u e) (AnswersParts.both q t n k v f) =
-      let listing : n ≡ m = one_program taken p n m (subst (λ (x : List ℕ). IsProgramText taken x n) (one_front input q p t s k h) v) u in
+      let listing : n ≡ m = one_program (taken p) p n m (subst (λ (x : List ℕ). IsProgramText (taken x) x n) (one_front input q p t s k h) v) u in
       one m s a b out text e (subst (λ (x : List ℕ). Gives m x b text) (one_back input q p t s k h) (subst (λ (x : Listing). Gives x t b text) listing f))
   one_of_parts a b out text (AnswersParts.one_part h) (AnswersParts.refused q t k v) = absurd (h _ k.parting)
   one_of_parts a b out text (AnswersParts.one_part h) (AnswersParts.both q t n k v f) = absurd (h _ k.parting)
@@ -68,8 +68,8 @@ module _ (taken : Intake) (Gives : ScheduleAnswer) (one : (p : Listing) (schedul
 
 one_text : (s : Settings) (input : List ℕ) (a b : Status) (out text : List ℕ) → AnswersText s input a out → AnswersText s input b text → (a ≡ b) × (out ≡ text)
 one_text (Instrument m bound) input a b out text h k = one_of_program small_source (PrintsWoven m bound) (one_woven m bound) input a b out text h k
-one_text ReplaySc input a b out text h k = one_of_parts source (Replays Sc) (one_replay Sc) input a b out text h k
-one_text (Replay m bound) input a b out text h k = one_of_parts source (Replays (Buffered m bound)) (one_replay (Buffered m bound)) input a b out text h k
+one_text ReplaySc input a b out text h k = one_of_parts (run_by Sc) (Replays Sc) (one_replay Sc) input a b out text h k
+one_text (Replay m bound) input a b out text h k = one_of_parts (run_by (Buffered m bound)) (Replays (Buffered m bound)) (one_replay (Buffered m bound)) input a b out text h k
 
 -- an input is a text or is none, and has one answer
 pub one_answer : (s : Settings) (input : List ℕ) (a b : Status) (out text : List ℕ) → AnswersWhole s input a out → AnswersWhole s input b text → (a ≡ b) × (out ≡ text)

@@ -28,7 +28,7 @@ use Rattle.mm_names.specs.declared.refusal.NameFault.{NameFault}
 use Rattle.mm_names.specs.declared.refusal.NameFault.TheVariants as name_fault
 use Rattle.mm_names.specs.Programs.{IsAccepted as MakesSense, IsRefused as IsNameFault}
 use Rattle.mm_names.proofs.Decided.{never_both}
-use Rattle.mm_run.specs.Program.{HasFault, HasNameFault, Intake, IsNoProgram, IsProgramText, IsRefused, PassesLimit, small_source, source}
+use Rattle.mm_run.specs.Program.{HasFault, HasNameFault, Intake, IsNoProgram, IsProgramText, IsRefused, PassesLimit, any, small_source}
 
 -- the tree of the tokens is that of the text
 pub tree_of : (side : Side) (text : List ℕ) (tokens read : List Token) (tree : Tree) → read ≡ tokens → AreTokens text tokens → Parses side text read tree → IsTreeOf side text tree
@@ -98,9 +98,9 @@ module _ (taken : Intake) (text : List ℕ) (p : Listing) (h : IsProgramText tak
 -- ---- what a fault says
 
 -- a fault that says why the text is no program rejects it
-pub rejects : (text : List ℕ) (at : At) (why : List ℕ) (fault : ProgramFault) → IsNoProgram Source text at why → Says fault at why → Rejects text fault
-rejects text at why (program_fault.Refused r) h s = rw (s.0, s.1) h
-rejects text at why program_fault.NoMemory h s = tt
+pub rejects : (side : Side) (text : List ℕ) (at : At) (why : List ℕ) (fault : ProgramFault) → IsNoProgram side text at why → Says fault at why → Rejects side text fault
+rejects side text at why (program_fault.Refused r) h s = rw (s.0, s.1) h
+rejects side text at why program_fault.NoMemory h s = tt
 
 -- and one that says why the text is refused refuses it
 pub refuses : (text : List ℕ) (at : At) (why : List ℕ) (fault : ProgramFault) → IsRefused small_source text at why → Says fault at why → Refuses text fault
@@ -108,7 +108,7 @@ refuses text at why (program_fault.Refused r) h s = rw (s.0, s.1) h
 refuses text at why program_fault.NoMemory h s = tt
 
 -- a text that is no program is refused
-pub rejected : (text : List ℕ) (fault : ProgramFault) → Rejects text fault → Refuses text fault
+pub rejected : (text : List ℕ) (fault : ProgramFault) → Rejects Source text fault → Refuses text fault
 rejected text (program_fault.Refused r) h = IsRefused.no_program h
 rejected text program_fault.NoMemory h = tt
 
@@ -117,18 +117,18 @@ pub refuses_small : (text : List ℕ) (fault : ProgramFault) (s : Status) (out :
 refuses_small text (program_fault.Refused r) s out t h = rw (t.0, t.1) (Refusing.refused r.at (string_bytes r.why) h)
 refuses_small text program_fault.NoMemory s out t h = absurd t
 
-pub rejects_source : (text : List ℕ) (fault : ProgramFault) (s : Status) (out : List ℕ) → Tells fault s out → Rejects text fault → Refusing source text s out
-rejects_source text (program_fault.Refused r) s out t h = rw (t.0, t.1) (Refusing.refused r.at (string_bytes r.why) (IsRefused.no_program h))
-rejects_source text program_fault.NoMemory s out t h = absurd t
+pub rejects_any : (side : Side) (text : List ℕ) (fault : ProgramFault) (s : Status) (out : List ℕ) → Tells fault s out → Rejects side text fault → Refusing (any side) text s out
+rejects_any side text (program_fault.Refused r) s out t h = rw (t.0, t.1) (Refusing.refused r.at (string_bytes r.why) (IsRefused.no_program h))
+rejects_any side text program_fault.NoMemory s out t h = absurd t
 
 -- a fault that is known, of tokens
 pub lexed : (text : List ℕ) (fault f : LexFault) → fault ≡ f → (f ≡ lex_fault.NoMemory → ⊥) → (fault ≢ lex_fault.NoMemory → IsFirstFault text fault) → IsFirstFault text f
 lexed text fault f e n h = subst (λ (x : LexFault). IsFirstFault text x) e (h (λ m. n (sym e ∙ m)))
 
 -- and of the grammar
-pub known : (text : List ℕ) (tokens : List Token) (fault f : ParseFault) → AreTokens text tokens → fault ≡ f → (f ≡ parse_fault.NoMemory → ⊥) → (fault ≢ parse_fault.NoMemory → IsFault Source text tokens fault) → HasFault Source text f
-known text tokens fault f t e n h = record { tokens = tokens; cut = t; fails = subst (λ (x : ParseFault). IsFault Source text tokens x) e (h (λ m. n (sym e ∙ m))) }
+pub known : (side : Side) (text : List ℕ) (tokens : List Token) (fault f : ParseFault) → AreTokens text tokens → fault ≡ f → (f ≡ parse_fault.NoMemory → ⊥) → (fault ≢ parse_fault.NoMemory → IsFault side text tokens fault) → HasFault side text f
+known side text tokens fault f t e n h = record { tokens = tokens; cut = t; fails = subst (λ (x : ParseFault). IsFault side text tokens x) e (h (λ m. n (sym e ∙ m))) }
 
 -- and of names and types
-pub sensed : (text : List ℕ) (tree : Tree) (fault f : NameFault) → IsTreeOf Source text tree → fault ≡ f → (f ≡ name_fault.NoMemory → ⊥) → (fault ≢ name_fault.NoMemory → IsNameFault Source tree fault) → HasNameFault Source text f
-sensed text tree fault f t e n h = record { tree = tree; read = t; fails = subst (λ (x : NameFault). IsNameFault Source tree x) e (h (λ m. n (sym e ∙ m))) }
+pub sensed : (side : Side) (text : List ℕ) (tree : Tree) (fault f : NameFault) → IsTreeOf side text tree → fault ≡ f → (f ≡ name_fault.NoMemory → ⊥) → (fault ≢ name_fault.NoMemory → IsNameFault side tree fault) → HasNameFault side text f
+sensed side text tree fault f t e n h = record { tree = tree; read = t; fails = subst (λ (x : NameFault). IsNameFault side tree x) e (h (λ m. n (sym e ∙ m))) }

@@ -11,25 +11,25 @@ use Rattle.mm_sched.specs.ScheduleText.{IsSchedule, entries_in}
 use Rattle.mm_run.specs.declared.command.Settings.{Settings}
 use Rattle.mm_run.specs.declared.command.Settings.TheVariants.{Instrument, ReplaySc, Replay}
 use Rattle.mm_run.specs.Parts.{IsSplit}
-use Rattle.mm_run.specs.Program.{Intake, IsProgramText, small_source, source}
+use Rattle.mm_run.specs.Program.{Intake, IsProgramText, run_by, small_source}
 
 -- a program and a schedule that is a run of it
-pub record IsRun (taken : Intake) (r : Rules) (input : List ℕ) : Type 0 where
+pub record IsRun (taken : List ℕ → Intake) (r : Rules) (input : List ℕ) : Type 0 where
   pub program : List ℕ
   pub schedule : List ℕ
   pub listing : Listing
   pub lines : List Line
   pub last : State
   pub split : IsSplit input program schedule
-  pub accepted : IsProgramText taken program listing
+  pub accepted : IsProgramText (taken program) program listing
   pub fits : IsSchedule schedule lines
   pub runs : run r listing (initial listing) (entries_in lines) ≡ Some last
 
 -- the parts of the input are what the command asks for
 abbrev pub HasParts : Settings → List ℕ → Type 0
 HasParts (Instrument m bound) input = (p : Listing) × IsProgramText small_source input p
-HasParts ReplaySc input = IsRun source Sc input
-HasParts (Replay m bound) input = IsRun source (Buffered m bound) input
+HasParts ReplaySc input = IsRun (run_by Sc) Sc input
+HasParts (Replay m bound) input = IsRun (run_by (Buffered m bound)) (Buffered m bound) input
 
 -- the input is a text whose parts are what the command asks for
 pub record IsAccepted (s : Settings) (input : List ℕ) : Type 0 where

@@ -21,7 +21,7 @@ use Rattle.mm_run.specs.Input.{IsWhole, IsTooLong}
 use Rattle.mm_run.specs.Lines.{refusal_line}
 use Rattle.mm_run.specs.Output.{AppendsPart}
 use Rattle.mm_run.specs.Parts.{IsNotUtf8, IsSplit, LacksPart}
-use Rattle.mm_run.specs.Program.{Intake, IsProgramText, IsRefused, small_source, source}
+use Rattle.mm_run.specs.Program.{Intake, IsProgramText, IsRefused, run_by, small_source}
 use Rattle.mm_run.specs.Outcome.{Outcome, TellsVerdict}
 
 -- ---- the woven program
@@ -72,17 +72,17 @@ pub data AnswersProgram (taken : Intake) (Gives : ProgramAnswer) (input : List �
       → Gives p status out
       → AnswersProgram taken Gives input status out
 
--- the status and the output of a command that takes a program and a schedule
-pub data AnswersParts (taken : Intake) (Gives : ScheduleAnswer) (input : List ℕ) : Status → List ℕ → Type 0 where
+-- the status and the output of a command that takes a program and a schedule, by what it takes for a program of this text
+pub data AnswersParts (taken : List ℕ → Intake) (Gives : ScheduleAnswer) (input : List ℕ) : Status → List ℕ → Type 0 where
   one_part : LacksPart input
       → AnswersParts taken Gives input Refused (refusal_line (place_after (chars input)) (codes "missing part"))
   refused : {status : Status} {out : List ℕ} (program schedule : List ℕ)
       → IsSplit input program schedule
-      → Refusing taken program status out
+      → Refusing (taken program) program status out
       → AnswersParts taken Gives input status out
   both : {status : Status} {out : List ℕ} (program schedule : List ℕ) (p : Listing)
       → IsSplit input program schedule
-      → IsProgramText taken program p
+      → IsProgramText (taken program) program p
       → Gives p schedule status out
       → AnswersParts taken Gives input status out
 
@@ -95,8 +95,8 @@ Replays r p = Outcome r p TellsVerdict
 -- the status and the output for an input that is a text
 abbrev pub AnswersText : Settings → List ℕ → Status → List ℕ → Type 0
 AnswersText (Instrument m bound) = AnswersProgram small_source (PrintsWoven m bound)
-AnswersText ReplaySc = AnswersParts source (Replays Sc)
-AnswersText (Replay m bound) = AnswersParts source (Replays (Buffered m bound))
+AnswersText ReplaySc = AnswersParts (run_by Sc) (Replays Sc)
+AnswersText (Replay m bound) = AnswersParts (run_by (Buffered m bound)) (Replays (Buffered m bound))
 
 -- the status and the output for an input of at most the greatest length
 pub data AnswersWhole (s : Settings) (input : List ℕ) : Status → List ℕ → Type 0 where

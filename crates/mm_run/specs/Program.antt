@@ -1,15 +1,18 @@
 -- Which texts are programs for a command, and why and where another is refused.
-use Rattle.std.specs.Prelude.{◌≡◌, ℕ, List, ◌++◌, codes, Some, None}
+use Rattle.std.specs.Prelude.{◌≡◌, ℕ, nat_eq, Bool, if◌then◌else◌, List, ◌++◌, codes, Some, None}
+use Rattle.std.specs.List.{starts_with}
 use Rattle.mm_goto.specs.declared.ident.At.{At}
 use Rattle.mm_goto.specs.declared.ident.Ident.{Ident}
 use Rattle.mm_goto.specs.Listing.{Listing}
 use Rattle.mm_goto.specs.Place.{start}
+use Rattle.mm_sched.specs.declared.entry.Rules.{Rules}
+use Rattle.mm_sched.specs.declared.entry.Rules.TheVariants.{Sc, Buffered, Partial}
 use Rattle.mm_lexer.specs.declared.token.Token.{Token}
 use Rattle.mm_lexer.specs.declared.token.LexFault.TheVariants.{BadToken, NumberTooLarge}
 use Rattle.mm_lexer.specs.Tokens.{AreTokens, IsFirstFault}
 use Rattle.mm_tree.specs.declared.item.Tree.{Tree}
 use Rattle.mm_tree.specs.declared.side.Side.{Side}
-use Rattle.mm_tree.specs.declared.side.Side.TheVariants.{Source}
+use Rattle.mm_tree.specs.declared.side.Side.TheVariants.{Source, Output}
 use Rattle.mm_flow.specs.declared.fault.Limit.{Limit}
 use Rattle.mm_flow.specs.declared.fault.Limit.TheVariants.{Threads, NestedCalls, Instructions, Locals, Mutexes, Cells}
 use Rattle.mm_flow.specs.Programs.{limit_passed, program_of}
@@ -31,9 +34,23 @@ pub record Intake : Type 1 where
 abbrev pub small_source : Intake
 small_source = record { side = Source; IsBuilt = IsSmall }
 
--- any source
-abbrev pub source : Intake
-source = record { side = Source; IsBuilt = λ tree. Unit {0} }
+-- any program of the side
+abbrev pub any : Side → Intake
+any side = record { side = side; IsBuilt = λ tree. Unit {0} }
+
+-- the text begins as a printed program does
+abbrev pub is_printed : List ℕ → Bool
+is_printed text = starts_with nat_eq text (codes "/* goto-mm 1")
+
+-- Without buffers a printed program is run too: an atomic section leaves no store behind. With buffers every text is a source.
+abbrev pub side_for : Rules → List ℕ → Side
+side_for Sc text = if is_printed text then Output else Source
+side_for (Buffered m bound) text = Source
+side_for (Partial m bound buffered) text = Source
+
+-- what is run by the rules
+abbrev pub run_by : Rules → List ℕ → Intake
+run_by r text = any (side_for r text)
 
 -- The text has the tree of a program whose names and types make sense, which passes no limit and is built, and flattened it is
 -- this goto program.

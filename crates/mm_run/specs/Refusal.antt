@@ -3,7 +3,7 @@ use Rattle.std.specs.Prelude.{◌≡◌, ℕ, List, string_bytes}
 use Rattle.mm_goto.specs.declared.ident.At.{At}
 use Rattle.mm_run.specs.declared.program.ProgramFault.{ProgramFault}
 use Rattle.mm_run.specs.declared.program.ProgramFault.TheVariants.{Refused, NoMemory}
-use Rattle.mm_tree.specs.declared.side.Side.TheVariants.{Source}
+use Rattle.mm_tree.specs.declared.side.Side.{Side}
 use Rattle.mm_run.specs.declared.status.Status.{Status}
 use Rattle.mm_run.specs.declared.status.Status.TheVariants as status
 use Rattle.mm_run.specs.Lines.{refusal_line}
@@ -14,10 +14,10 @@ abbrev pub Says : ProgramFault → At → List ℕ → Type 0
 Says (Refused r) at why = (r.at ≡ at) × (string_bytes r.why ≡ why)
 Says NoMemory at why = Unit {0}
 
--- the fault is that the text of a source is no program
-abbrev pub Rejects : List ℕ → ProgramFault → Type 0
-Rejects text (Refused r) = IsNoProgram Source text r.at (string_bytes r.why)
-Rejects text NoMemory = Unit {0}
+-- the fault is that the text is no program of the side
+abbrev pub Rejects : Side → List ℕ → ProgramFault → Type 0
+Rejects side text (Refused r) = IsNoProgram side text r.at (string_bytes r.why)
+Rejects side text NoMemory = Unit {0}
 
 -- the fault is a refusal of a text that must be a small program
 abbrev pub Refuses : List ℕ → ProgramFault → Type 0

@@ -7,9 +7,9 @@ ghost use Rattle.mm_grammar.specs.Meaning.{IsTreeOf};
 ghost use Rattle.mm_goto.specs.Place.{start};
 ghost use Rattle.mm_flow.specs.Programs.{limit_passed, program_of as flattened};
 ghost use Rattle.mm_names.specs.Programs.{IsAccepted as MakesSense, IsRefused as IsNameFault};
-ghost use Rattle.mm_tree.specs.declared.side.Side.TheVariants.{Source};
+ghost use Rattle.mm_tree.specs.declared.side.Side.{Side as SideValue};
 ghost use Rattle.mm_parse.specs.Faults.{IsFault};
-ghost use Rattle.mm_run.specs.Program.{IsProgramText, limit_words, small_source, source};
+ghost use Rattle.mm_run.specs.Program.{IsProgramText, any, limit_words, small_source};
 ghost use Rattle.mm_run.specs.Refusal.{Rejects, Refuses, Says};
 
 use crate::input::MAX_INPUT;
@@ -55,7 +55,7 @@ fn outside_profile(alloc: Global, at: At, word: &str) -> ProgramFault
 }
 
 fn unlexed(alloc: Global, fault: LexFault) -> ProgramFault
-    ensures { (text : List ℕ) → (fault ≢ LexFault.NoMemory → IsFirstFault text fault) → Rejects text result }
+    ensures { (side : SideValue) (text : List ℕ) → (fault ≢ LexFault.NoMemory → IsFirstFault text fault) → Rejects side text result }
 {
     match fault {
         LexFault::BadToken(at) => refuse(alloc, at, "bad token"),
@@ -65,7 +65,7 @@ fn unlexed(alloc: Global, fault: LexFault) -> ProgramFault
 }
 
 fn unparsed(alloc: Global, fault: ParseFault) -> ProgramFault
-    ensures { (text : List ℕ) (tokens : List TokenValue) → AreTokens text tokens → (fault ≢ ParseFault.NoMemory → IsFault Source text tokens fault) → Rejects text result }
+    ensures { (side : SideValue) (text : List ℕ) (tokens : List TokenValue) → AreTokens text tokens → (fault ≢ ParseFault.NoMemory → IsFault side text tokens fault) → Rejects side text result }
 {
     match fault {
         ParseFault::TooDeep(at) => refuse(alloc, at, "too deep"),
@@ -76,7 +76,7 @@ fn unparsed(alloc: Global, fault: ParseFault) -> ProgramFault
 }
 
 fn senseless(alloc: Global, fault: NameFault) -> ProgramFault
-    ensures { (text : List ℕ) (tree : TreeValue) → IsTreeOf Source text tree → (fault ≢ NameFault.NoMemory → IsNameFault Source tree fault) → Rejects text result }
+    ensures { (side : SideValue) (text : List ℕ) (tree : TreeValue) → IsTreeOf side text tree → (fault ≢ NameFault.NoMemory → IsNameFault side tree fault) → Rejects side text result }
 {
     match fault {
         NameFault::NoMain(at) => refuse(alloc, at, "no main"),
@@ -92,16 +92,16 @@ fn senseless(alloc: Global, fault: NameFault) -> ProgramFault
 }
 
 /// The tree of a text, or why it is refused.
-fn tree_of(alloc: Global, text: &str) -> Result<Tree, ProgramFault>
+fn tree_of(alloc: Global, text: &str, side: Side) -> Result<Tree, ProgramFault>
     requires { length text.now ≤ MAX_INPUT }
-    ensures tree { IfOk result (λ tree. IsTreeOf Source text.now tree) }
-    ensures refused { IfErr result (λ fault. Rejects text.now fault) }
+    ensures tree { IfOk result (λ tree. IsTreeOf side text.now tree) }
+    ensures refused { IfErr result (λ fault. Rejects side text.now fault) }
 {
     let tokens = match lex(alloc, text) {
         Ok(tokens) => tokens,
         Err(fault) => return Err(unlexed(alloc, fault)),
     };
-    match parse(alloc, text, &tokens, Side::Source) {
+    match parse(alloc, text, &tokens, side) {
         Ok(tree) => Ok(tree),
         Err(fault) => Err(unparsed(alloc, fault)),
     }
@@ -121,42 +121,42 @@ fn too_large(alloc: Global, limit: Limit) -> ProgramFault
     refuse(alloc, At::start(), why)
 }
 
-/// The tree of a source that makes sense, or why the text is none.
-fn checked_tree(alloc: Global, text: &str) -> Result<Checked, ProgramFault>
+/// The tree of a program of the side that makes sense, or why the text is none.
+fn checked_tree(alloc: Global, text: &str, side: Side) -> Result<Checked, ProgramFault>
     requires { length text.now ≤ MAX_INPUT }
-    ensures read { IfOk result (λ checked. IsTreeOf Source text.now checked.tree) }
-    ensures sense { IfOk result (λ checked. MakesSense Source checked.tree) }
-    ensures refused { IfErr result (λ fault. Rejects text.now fault) }
+    ensures read { IfOk result (λ checked. IsTreeOf side text.now checked.tree) }
+    ensures sense { IfOk result (λ checked. MakesSense side checked.tree) }
+    ensures refused { IfErr result (λ fault. Rejects side text.now fault) }
 {
-    let tree = tree_of(alloc, text)?;
-    match check_owned(alloc, tree, Side::Source) {
+    let tree = tree_of(alloc, text, side)?;
+    match check_owned(alloc, tree, side) {
         Ok(checked) => Ok(checked),
         Err(fault) => Err(senseless(alloc, fault)),
     }
 }
 
 /// The goto program of a tree, or which limit it passes.
-fn flat(alloc: Global, tree: &Tree) -> Result<Program, ProgramFault>
-    ensures program { IfOk result (λ p. p ≡ flattened Source tree.now) }
-    ensures within { OnOk result (limit_passed Source tree.now ≡ None) }
-    ensures refused { IfErr result (λ fault. (text : List ℕ) → IsTreeOf Source text tree.now → MakesSense Source tree.now → Rejects text fault) }
+fn flat(alloc: Global, tree: &Tree, side: Side) -> Result<Program, ProgramFault>
+    ensures program { IfOk result (λ p. p ≡ flattened side tree.now) }
+    ensures within { OnOk result (limit_passed side tree.now ≡ None) }
+    ensures refused { IfErr result (λ fault. (text : List ℕ) → IsTreeOf side text tree.now → MakesSense side tree.now → Rejects side text fault) }
 {
-    match flatten(alloc, tree, Side::Source) {
+    match flatten(alloc, tree, side) {
         Ok(program) => Ok(program),
         Err(FlatFault::TooMany(limit)) => Err(too_large(alloc, limit)),
         Err(FlatFault::NoMemory) => Err(ProgramFault::NoMemory),
     }
 }
 
-/// The goto program of a source, or why the text is none: by the first of these stages that refuses it: tokens, nesting, the
+/// The goto program of a text of the side, or why it is none: by the first of these stages that refuses it: tokens, nesting, the
 /// grammar, names and types, and limits.
-pub fn source_program(alloc: Global, text: &str) -> Result<Program, ProgramFault>
+pub fn any_program(alloc: Global, text: &str, side: Side) -> Result<Program, ProgramFault>
     requires { length text.now ≤ MAX_INPUT }
-    ensures program { IfOk result (λ program. IsProgramText source text.now program) }
-    ensures refused { IfErr result (λ fault. Rejects text.now fault) }
+    ensures program { IfOk result (λ program. IsProgramText (any side) text.now program) }
+    ensures refused { IfErr result (λ fault. Rejects side text.now fault) }
 {
-    let checked = checked_tree(alloc, text)?;
-    flat(alloc, &checked.tree)
+    let checked = checked_tree(alloc, text, side)?;
+    flat(alloc, &checked.tree, side)
 }
 
 /// The goto program of a small program, or why the text is refused: by the first of the stages of a source that refuses it, or as
@@ -167,8 +167,8 @@ pub fn small_program(alloc: Global, text: &str) -> Result<Program, ProgramFault>
     ensures valid { IfOk result IsValid }
     ensures refused { IfErr result (λ fault. Refuses text.now fault) }
 {
-    let checked = checked_tree(alloc, text)?;
-    flat(alloc, &checked.tree)?;
+    let checked = checked_tree(alloc, text, Side::Source)?;
+    flat(alloc, &checked.tree, Side::Source)?;
     match small(alloc, &checked.tree) {
         Ok(program) => Ok(program),
         Err(SmallFault::NotBuilt) => Err(refuse(alloc, At::start(), "not built")),

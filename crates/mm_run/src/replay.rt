@@ -1,4 +1,5 @@
-ghost use Rattle.std.specs.Prelude.{◌≡◌, ◌+◌, ◌<◌, ◌≤◌, ◌^◌, ℕ, List, length, codes, IfOk, true, string_bytes};
+ghost use Rattle.std.specs.Prelude.{◌≡◌, ◌+◌, ◌<◌, ◌≤◌, ◌^◌, ℕ, List, length, codes, nat_eq, IfOk, true, string_bytes};
+ghost use Rattle.std.specs.List.{starts_with};
 ghost use Rattle.std.specs.Str.{chars};
 ghost use Rattle.mm_goto.specs.Listing.{Listing};
 ghost use Rattle.mm_goto.specs.Place.{place_after};
@@ -9,20 +10,21 @@ ghost use Rattle.mm_sched.specs.State.{initial};
 ghost use Rattle.mm_sched.specs.ScheduleText.{IsFault, IsSchedule, entries_in};
 ghost use Rattle.mm_run.specs.Answer.{AnswersParts, Replays};
 ghost use Rattle.mm_run.specs.Lines.{bad_line, refusal_line, stuck_line, verdict_line};
-ghost use Rattle.mm_run.specs.Program.{source};
+ghost use Rattle.mm_run.specs.Program.{is_printed, run_by, side_for};
 ghost use Rattle.mm_run.specs.reading.Whole.{IsWholeMachine};
 
 use crate::answer::{Answer, answer_fault, refused};
 use crate::input::MAX_INPUT;
 use crate::machine::{Machine, take_lines};
 use crate::parts::split;
-use crate::program::source_program;
+use crate::program::any_program;
 use crate::status::Status;
 use mm_buf::Buf;
 use mm_goto::{Instr, NoMemory, Program};
 use mm_lexer::end_of;
 use mm_sc::Sc;
 use mm_sched::{Line, Rules, SchedFault, read_schedule};
+use mm_tree::Side;
 use std::alloc::Global;
 
 // The answer of a schedule that is a run.
@@ -149,14 +151,42 @@ fn missing_part(alloc: Global, input: &str) -> Result<Answer, NoMemory>
     refused(alloc, end_of(input), "missing part")
 }
 
+fn begins_with(text: &str, front: &str) -> bool
+    ensures { result ≡ starts_with nat_eq text.now front.now }
+{
+    text.as_bytes().starts_with(front.as_bytes())
+}
+
+fn is_printed(text: &str) -> bool
+    ensures { result ≡ is_printed text.now }
+{
+    begins_with(text, "/* goto-mm 1")
+}
+
+// The side on which the text of a program is read.
+fn side_for(rules: &Rules, text: &str) -> Side
+    ensures { result ≡ side_for rules.now text.now }
+{
+    match rules {
+        Rules::Sc => {
+            if is_printed(text) {
+                Side::Output
+            } else {
+                Side::Source
+            }
+        }
+        Rules::Buffered(_, _) | Rules::Partial(_, _, _) => Side::Source,
+    }
+}
+
 /// The answer of `replay` to a program and a schedule, on the machine of the rules.
 pub fn answer_replay(alloc: Global, rules: &Rules, input: &str) -> Result<Answer, NoMemory>
     requires whole { IsWholeMachine rules.now }
     requires length { length input.now ≤ MAX_INPUT }
-    ensures { IfOk result (λ answer. AnswersParts source (Replays rules.now) input.now answer.status (string_bytes answer.output)) }
+    ensures { IfOk result (λ answer. AnswersParts (run_by rules.now) (Replays rules.now) input.now answer.status (string_bytes answer.output)) }
 {
     match split(input) {
-        Some((program, schedule)) => match source_program(alloc, program) {
+        Some((program, schedule)) => match any_program(alloc, program, side_for(rules, program)) {
             Ok(program) => replay_text(alloc, rules, &program, schedule),
             Err(fault) => answer_fault(alloc, fault),
         },

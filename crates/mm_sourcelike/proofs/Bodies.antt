@@ -24,6 +24,7 @@ use Rattle.mm_sourcelike.specs.Shapes.{shape_of, body_scoped}
 use Rattle.mm_sourcelike.proofs.Cells.{both_all}
 use Rattle.mm_sourcelike.proofs.Counting.{steps}
 use Rattle.mm_sourcelike.proofs.Evaluating.{all_left, all_right}
+use Rattle.mm_sourcelike.proofs.Jumping.{Level, calm, in_order}
 use Rattle.mm_sourcelike.proofs.Lengthening.{body_long}
 use Rattle.mm_sourcelike.proofs.Mentioned.{stmt_passes, creates_append}
 use Rattle.mm_sourcelike.proofs.Scoping.{fault_left, fault_right, none_is_not}
@@ -82,12 +83,13 @@ pub record BodyThreads (items : List Item) (starts : List Started) (names : Name
   pub functions : AllByRecursion (λ (s : Started). IsThreadFunction items s.function) (started_in (uses ns))
   pub bare : AllByRecursion (IsBare names) (uses ns)
   pub apart : Apart (uses ns)
+  pub level : Level d.flow
 
 module _ (p : Listing) (t : Thread) (items : List Item) (labels : Table) where
   pub body_threads : (ss : List Stmt) (a : Around) (names : Names) (w : Within) (k : Known) → a.outermost ≡ true → Accepted p t items (λ b. all_at b (map (said_stmt items labels) ss)) (body_code ss) (of_stmts ss) (body_scoped ss) a names w k
       → BodyThreads items w.parts.starts names (all_at a (map (said_stmt items labels) ss) names).notes k (body_code ss w k) ss
   unfolding all_at in_turn and_then skip
-  body_threads [] a names w k e h = record { events = refl; creates = refl; functions = tt; bare = tt; apart = tt }
+  body_threads [] a names w k e h = record { events = refl; creates = refl; functions = tt; bare = tt; apart = tt; level = calm tt }
   body_threads (s ∷ ss) a names w k e h =
       let said : Said = said_stmt items labels s a names in
       let mid : Known = (stmt_code s w k).known in
@@ -127,4 +129,5 @@ module _ (p : Listing) (t : Thread) (items : List Item) (labels : Table) where
         functions = subst (λ ws. AllByRecursion (λ (q : Started). IsThreadFunction items q.function) ws) (sym (ap started_in all ∙ started_append us vs)) (both_all (λ (q : Started). IsThreadFunction items q.function) (started_in us) (started_in vs) one.functions two.functions);
         bare = subst (AllByRecursion (IsBare names)) (sym all) (both_all (IsBare names) us vs (all_weaker (FlagFits names) (IsBare names) (fits_bare names) us one.flags) bare);
         apart = subst Apart (sym all) (apart_both names us vs one.flags bare two.apart);
+        level = in_order one.level two.level;
       }

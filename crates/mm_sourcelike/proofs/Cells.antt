@@ -7,7 +7,8 @@ use Rattle.std.proofs.lemmas.List.Elements.{All-from_recursion}
 use Rattle.mm_goto.specs.declared.ident.Ident.{Ident}
 use Rattle.mm_goto.specs.declared.program.Cell.{Cell}
 use Rattle.mm_goto.specs.declared.pure.Pure.{Pure}
-use Rattle.mm_goto.specs.Locals.{Row, rows_of, rows_step}
+use Rattle.mm_goto.specs.declared.row.Row.{Row}
+use Rattle.mm_goto.specs.Locals.{rows_of, rows_step}
 use Rattle.mm_goto.specs.Parts.{numbers, numbers_step}
 use Rattle.mm_goto.specs.Terms.{constant}
 use Rattle.mm_goto.specs.Valid.{IsInt, IsRow, IsNextElement, IsCellIn, start_kind, start_step}

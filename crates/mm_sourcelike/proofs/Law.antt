@@ -28,6 +28,7 @@ use Rattle.mm_sourcelike.proofs.Bodies.{BodyThreads, body_threads}
 use Rattle.mm_sourcelike.proofs.Cells.{at_right}
 use Rattle.mm_sourcelike.proofs.Counting.{steps}
 use Rattle.mm_sourcelike.proofs.Inlining.{thread_accepted}
+use Rattle.mm_sourcelike.proofs.Jumping.{Level}
 use Rattle.mm_sourcelike.proofs.Numbers.{once, joined, Proper}
 use Rattle.mm_sourcelike.proofs.Starting.{global_names}
 use Rattle.mm_sourcelike.proofs.Starts.{numbered, started_in, events}
@@ -86,16 +87,16 @@ module _ (side : Side) (tree : Tree) (ints : AreInts tree) (scoped : IsScoped tr
   abbrev parts : Parts
   parts = parts_of side items
 
-  abbrev all_uses : List Use
+  abbrev pub all_uses : List Use
   all_uses = uses (listed_items side items 0 items (global_names (ahead [] 0 items))).notes
 
-  main : TheMain side items p refl all_uses
+  pub main : TheMain side items p refl all_uses
   main = the_main side items p refl [] items 0 all_uses refl refl accepted.main (text_uses side items p refl ints.numbers scoped ints.asserts (accepted_notes side tree accepted))
 
-  fine : FunctionFine side items p refl main.function.at main.function.gives (codes "main") main.function.params main.function.body
+  pub fine : FunctionFine side items p refl main.function.at main.function.gives (codes "main") main.function.params main.function.body
   fine = function_fine side tree ints scoped accepted none (codes "main") main.k main.function
 
-  abbrev f : Function
+  abbrev pub f : Function
   f = record { params = main.function.params; body = main.function.body; asserts = fine.before }
 
   same_starts : creates_in f.body ≡ parts.starts
@@ -110,24 +111,28 @@ module _ (side : Side) (tree : Tree) (ints : AreInts tree) (scoped : IsScoped tr
       body_threads p (thread_of parts items (codes "main")) items b.labels f.body b.around b.names (in_thread parts items) (at_entry f.asserts) b.place
       (thread_accepted p (thread_of parts items (codes "main")) items parts (text side tree ints scoped accepted none) true f b fine.asserts (omega (arith, ap (λ (g : Function). (thread_code parts items g).known.next) named)) (λ e. same_starts))
 
-  abbrev main_uses : List Use
+  abbrev pub main_uses : List Use
   main_uses = uses (all_at main.body.body.around (map (said_stmt items main.body.body.labels) f.body) main.body.body.names).notes
+
+  -- main starts threads and waits for them in no loop and in no branch
+  pub main_level : Level (main_flow parts items)
+  main_level = subst (λ (g : Function). Level (thread_code parts items g).flow) (sym named) threads.level
 
   starts_are : parts.starts ≡ started_in main_uses
   starts_are = sym same_starts ∙ threads.creates
 
-  proper_uses : Proper [] main_uses
+  pub proper_uses : Proper [] main_uses
   unfolding notes_of
   proper_uses = proper side tree accepted main_uses [] main_uses (same_uses (notes_of side tree) ∙ main.body.noted) refl
 
-  events_are : events (main_flow parts items) ≡ numbered (started_in main_uses) 0 main_uses
+  pub events_are : events (main_flow parts items) ≡ numbered (started_in main_uses) 0 main_uses
   events_are = ap (λ (g : Function). events (thread_code parts items g).flow) named ∙ (threads.events ∙ ap (λ ss. numbered ss 0 main_uses) starts_are)
 
   -- what holds of the instructions of all uses holds of main's Starts and Joins
   pub main_events : (P : List Instr → Type 0) → ((all : List Started) (us : List Use) → P (numbered all 0 us)) → P (events (main_flow parts items))
   main_events P h = subst P (sym events_are) (h (started_in main_uses) main_uses)
 
-  starts_fine : StartsFine items parts
+  pub starts_fine : StartsFine items parts
   starts_fine = record {
     threads = subst (AllByRecursion (λ (s : Started). IsThreadFunction items s.function)) (sym starts_are) threads.functions;
     once = λ u l h. kept_count (is_start u) (no_start u) (steps (main_flow parts items)) ∙ (ap (count_by (is_start u)) events_are ∙ once (started_in main_uses) 0 u main_uses l (omega (arith, h, ap length starts_are)));

@@ -219,7 +219,7 @@ record FitsStart (whole : List Use) (u : Use) (v : ℕ) : Type 0 where
   local : it.local ≡ u.local
   variable : it.variable ≡ u.variable
 
-only_start : (before : List Use) (u : Use) → u.function ≡ None → is_misused before u ≡ false → (list_any (is_start_of u) before ≡ true) × (list_any (is_join_of u) before ≡ false)
+pub only_start : (before : List Use) (u : Use) → u.function ≡ None → is_misused before u ≡ false → (list_any (is_start_of u) before ≡ true) × (list_any (is_join_of u) before ≡ false)
 unfolding is_misused
 only_start before u e h = by (list_any (is_start_of u) before) (list_any (is_join_of u) before) (sym (ap (λ f. if is_some f then list_any (is_start_of u) before else (not (list_any (is_start_of u) before) || list_any (is_join_of u) before)) e) ∙ h)
   where

@@ -145,7 +145,7 @@ numbered_ordered all n (u ∷ us) =
 
 -- ---- places
 
-in_rest : (P : Instr → Type 0) (cs : List Instr) (k : ℕ) (y : Instr) → AllByRecursion P (filter is_start_or_join cs) → slice_get cs k ≡ Some y → is_start_or_join y ≡ true → P y
+pub in_rest : (P : Instr → Type 0) (cs : List Instr) (k : ℕ) (y : Instr) → AllByRecursion P (filter is_start_or_join cs) → slice_get cs k ≡ Some y → is_start_or_join y ≡ true → P y
 in_rest P [] k y h e q = absurd (none_is_not y e)
 in_rest P (c ∷ cs) zero y h e q = by (is_start_or_join c) (ap is_start_or_join (same_some c y e) ∙ q) h
   where

@@ -44,6 +44,7 @@ use Rattle.mm_sourcelike.specs.Ints.{of_stmt, stmt_numbers, stmt_layer}
 use Rattle.mm_sourcelike.specs.Shapes.{Shape, shape_step, shape_layer, shape_of}
 use Rattle.mm_sourcelike.proofs.Counting.{steps}
 use Rattle.mm_sourcelike.proofs.Idling.{stmt_idle, body_idle}
+use Rattle.mm_sourcelike.proofs.Jumping.{Level, calm, event, in_order}
 use Rattle.mm_sourcelike.proofs.Laying.{weaker}
 use Rattle.mm_sourcelike.proofs.Lengthening.{node_code}
 use Rattle.mm_sourcelike.proofs.Mentioned.{stmt_passes}
@@ -119,6 +120,7 @@ pub record Threaded (items : List Item) (starts : List Started) (names : Names) 
   pub creates : creates ms ≡ started_in (uses ns)
   pub functions : AllByRecursion (λ (s : Started). IsThreadFunction items s.function) (started_in (uses ns))
   pub flags : AllByRecursion (FlagFits names) (uses ns)
+  pub level : Level d.flow
 
 -- ---- the function of a thread
 
@@ -257,6 +259,7 @@ module _ (p : Listing) (t : Thread) (items : List Item) where
         creates = sym (one_start names (Some f.name) x.name (first ++ second) o);
         functions = subst (AllByRecursion (λ (s : Started). IsThreadFunction items s.function)) (sym (one_start names (Some f.name) x.name (first ++ second) o)) (body, tt);
         flags = one_flag names (Some f.name) x.name (first ++ second) o;
+        level = event;
       }
 
   join_threads : (at : At) (x : Word) (zs : List ℤ) (b : Bool) → Threads (λ a. noted_thread a None at x) (λ w k. just (Do at (instr.Join (or_0 (thread_in w.parts.starts k.seen.starts x.name)))) k) zs b []
@@ -268,6 +271,7 @@ module _ (p : Listing) (t : Thread) (items : List Item) where
         creates = sym (one_start names None x.name ns o);
         functions = subst (AllByRecursion (λ (s : Started). IsThreadFunction items s.function)) (sym (one_start names None x.name ns o)) tt;
         flags = one_flag names None x.name ns o;
+        level = event;
       }
 
   nothing_created : (ms : List Mention) → length (creates ms) ≡ 0 → creates ms ≡ []
@@ -305,6 +309,7 @@ module _ (p : Listing) (t : Thread) (items : List Item) where
           creates = none ∙ sym (ap started_in idle);
           functions = subst (λ us. AllByRecursion (λ (q : Started). IsThreadFunction items q.function) (started_in us)) (sym idle) tt;
           flags = subst (AllByRecursion (FlagFits names)) (sym idle) tt;
+          level = calm (weaker (IsInstrAt p t false) (λ i. is_start_or_join i ≡ false) (IsPureIn p t) (λ q. Unit {0}) (λ i g. g.1 refl) (λ q g. tt) (stmt_code s w k).flow done.flow);
         }
 
     -- ---- one layer
@@ -372,7 +377,7 @@ module _ (p : Listing) (t : Thread) (items : List Item) where
     label_threads : (x : Word) (d : Proved) → Threads (said_stmt items labels d.0) (labelled x.name (stmt_code d.0)) (of_stmt d.0) (shape_of d.0).is_scoped (Label x.name ∷ mentions_of d.0)
     label_threads x d a names w k e h =
         let one = d.1 a names w k e (record { good = h.good; side = h.side; reads = h.reads; ints = h.ints; scoped = h.scoped; fine = h.fine; room = record { next = h.room.next; asserts = h.room.asserts; starts = h.room.starts } }) in
-        record { events = one.events; creates = one.creates; functions = one.functions; flags = one.flags }
+        record { events = one.events; creates = one.creates; functions = one.functions; flags = one.flags; level = in_order (calm tt) one.level }
 
     layer_threads : (y : Layer) (at : At) → Q (whole (bare y) at)
     unfolding choice while_loop do_loop block for_loop closed noted_assign noted_value returned asserted noted_goto declared_local declared_thread declaring and_then in_turn

@@ -225,7 +225,7 @@ module _ (side : Side) (tree : Tree) (ints : AreInts tree) (scoped : IsScoped tr
   main_here : IsMainAt items
   main_here = main_at items accepted.main
 
-  main_function : ThreadFunction p items parts text true (codes "main")
+  pub main_function : ThreadFunction p items parts text true (codes "main")
   main_function =
       let m = main_here in
       let q = function_fine (codes "main") m.k m.function in
@@ -237,7 +237,7 @@ module _ (side : Side) (tree : Tree) (ints : AreInts tree) (scoped : IsScoped tr
         main = λ e. sym (ap creates_in (same_body items 0 (codes "main") (record { params = m.function.params; body = m.function.body; asserts = q.before }) q.is));
       }
 
-  thread_function : (f : Ident) → IsThreadFunction items f → ThreadFunction p items parts text false f
+  pub thread_function : (f : Ident) → IsThreadFunction items f → ThreadFunction p items parts text false f
   thread_function f h =
       let q = function_fine f h.k h.function in
       record {

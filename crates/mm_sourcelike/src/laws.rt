@@ -1,9 +1,11 @@
 //! What holds of flattened programs.
 
-ghost use Rattle.std.specs.Prelude.{◌≡◌, ◌+◌, ◌-◌, ◌<◌, ◌≤◌, ℕ, All, IsSomeAnd, None, Some, length, slice_get};
+ghost use Rattle.std.specs.Prelude.{◌≡◌, ◌≢◌, ◌+◌, ◌-◌, ◌<◌, ◌≤◌, ℕ, All, IsSomeAnd, None, Some, false, length, slice_get};
+ghost use Rattle.mm_goto.specs.declared.program.Instr.{Instr};
 ghost use Rattle.mm_goto.specs.declared.program.Instr.TheVariants.{End, Join, Start};
 ghost use Rattle.mm_goto.specs.declared.program.Cell.{Cell};
-ghost use Rattle.mm_goto.specs.Sourcelike.{IsWithinSource};
+ghost use Rattle.mm_goto.specs.declared.program.Thread.{Thread};
+ghost use Rattle.mm_goto.specs.Sourcelike.{AreApart, IsGuarded, IsWithinSource, JumpPassesNone, UpdatesApart, is_section};
 ghost use Rattle.mm_goto.specs.Valid.{IsValid, code_of};
 ghost use Rattle.mm_tree.specs.declared.item.Tree.{Tree};
 ghost use Rattle.mm_tree.specs.declared.side.Side.{Side};
@@ -42,4 +44,35 @@ pub fn main_waits_for_started_threads()
 /// The elements of an array stand together in the order of their indexes.
 pub fn elements_stand_in_order()
     ensures { (side : Side) (tree : Tree) (c i : ℕ) (a : Cell) → slice_get (program_of side tree).cells c ≡ Some a → a.index ≡ Some (i + 1) → (1 ≤ c) × IsSomeAnd (slice_get (program_of side tree).cells (c - 1)) (λ b. (b.name ≡ a.name) × (b.index ≡ Some i)) }
+{}
+
+/// Every flow path to an instruction of a flattened source passes the checks that it wants, and no local of a check is
+/// written behind it.
+pub fn each_check_is_passed()
+    ensures { (tree : Tree) → AreInts tree → IsScoped tree → IsAccepted Source tree → limit_passed Source tree ≡ None → (t k : ℕ) (thread : Thread) (i : Instr) → slice_get (program_of Source tree).threads t ≡ Some thread → slice_get thread.code k ≡ Some i → IsGuarded thread.code k i }
+{}
+
+/// No locked instruction of a flattened source reads the local that it writes.
+pub fn updates_stand_apart()
+    ensures { (tree : Tree) → AreInts tree → IsScoped tree → IsAccepted Source tree → limit_passed Source tree ≡ None → (t k : ℕ) (thread : Thread) (i : Instr) → slice_get (program_of Source tree).threads t ≡ Some thread → slice_get thread.code k ≡ Some i → UpdatesApart i }
+{}
+
+/// No atomic section begins or ends in a flattened source.
+pub fn a_source_has_no_section()
+    ensures { (tree : Tree) → AreInts tree → IsScoped tree → IsAccepted Source tree → limit_passed Source tree ≡ None → (t k : ℕ) (thread : Thread) (i : Instr) → slice_get (program_of Source tree).threads t ≡ Some thread → slice_get thread.code k ≡ Some i → is_section i ≡ false }
+{}
+
+/// No jump of main but to its last instruction passes an instruction that starts a thread or waits for one.
+pub fn jumps_of_main_pass_no_thread()
+    ensures { (tree : Tree) → AreInts tree → IsScoped tree → IsAccepted Source tree → limit_passed Source tree ≡ None → (j : ℕ) (i : Instr) → slice_get (code_of (program_of Source tree) 0) j ≡ Some i → JumpPassesNone (code_of (program_of Source tree) 0) j i }
+{}
+
+/// No thread starts main or waits for it.
+pub fn main_is_never_started()
+    ensures { (side : Side) (tree : Tree) → AreInts tree → IsScoped tree → IsAccepted side tree → limit_passed side tree ≡ None → (t k : ℕ) (thread : Thread) (i : Instr) → slice_get (program_of side tree).threads t ≡ Some thread → slice_get thread.code k ≡ Some i → (i ≢ Start 0) × (i ≢ Join 0) }
+{}
+
+/// Two cells of one name are two elements of one array, and mutexes have names of their own.
+pub fn names_stand_apart()
+    ensures { (side : Side) (tree : Tree) → IsAccepted side tree → AreApart (program_of side tree) }
 {}

@@ -4,7 +4,7 @@ use Rattle.std.proofs.lemmas.Bool.{cases_lt, leb-true, le-leb, ltb-true, lt-ltb,
 use Rattle.std.proofs.lemmas.Bool.Decides.{Decides-and, Decides-eqb}
 use Rattle.std.proofs.lemmas.Slice.Eq.{bytes_eq-Decides}
 use Rattle.mm_goto.specs.declared.program.Cell.{Cell}
-use Rattle.mm_goto.specs.Locals.{Row}
+use Rattle.mm_goto.specs.declared.row.Row.{Row}
 use Rattle.mm_goto.specs.Valid.{IsNextElement, IsRow}
 use Rattle.mm_valid.specs.reading.Deciding.{is_next_index, is_next_element, next_group, groups_behind, groups_of, is_row}
 

@@ -11,7 +11,8 @@ use Rattle.mm_goto.specs.declared.pure.Pure.TheFolds.{fold-roll-Pure, ind-Pure, 
 use Rattle.mm_goto.specs.declared.program.Cell.{Cell}
 use Rattle.mm_goto.specs.declared.program.Thread.{Thread}
 use Rattle.mm_goto.specs.Listing.{Listing}
-use Rattle.mm_goto.specs.Locals.{Row, larger, local_bound, local_bound_step, rows_of, rows_step}
+use Rattle.mm_goto.specs.declared.row.Row.{Row}
+use Rattle.mm_goto.specs.Locals.{larger, local_bound, local_bound_step, rows_of, rows_step}
 use Rattle.mm_goto.specs.Parts.{numbers, numbers_step}
 use Rattle.mm_goto.specs.Valid.{IsInt, IsRow, IsPureIn, IsCellIn, start_kind}
 use Rattle.mm_valid.specs.reading.Deciding.{is_int, is_row, groups_of, are_locals, are_locals_step, are_values, are_values_step, is_pure_in, is_cell_in}

@@ -13,7 +13,7 @@ use Rattle.mm_goto.specs.declared.program.Instr.TheVariants.{Set, Load, Store, I
 use Rattle.mm_goto.specs.declared.program.Cell.{Cell}
 use Rattle.mm_goto.specs.declared.program.Thread.{Thread}
 use Rattle.mm_goto.specs.Listing.{Listing}
-use Rattle.mm_goto.specs.Locals.{Row}
+use Rattle.mm_goto.specs.declared.row.Row.{Row}
 use Rattle.mm_goto.specs.Valid.{start_kind}
 use Rattle.mm_valid.specs.declared.code.Ranges.{Ranges}
 
