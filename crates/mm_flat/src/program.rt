@@ -1,5 +1,6 @@
 //! The goto program of a tree.
 ghost use Rattle.std.specs.Prelude.{◌≡◌, ◌+◌, ◌<◌, ◌≤◌, ◌∷◌, ◌++◌, [], Some, None, length, map, IfErr, IfOk, OnOk};
+ghost use Rattle.mm_goto.specs.Valid.{IsValid};
 ghost use Rattle.mm_flow.specs.Flow.{size};
 ghost use Rattle.mm_flow.specs.Programs.{flow_of, limit_passed, program_of, size_in, thread_code, thread_of, threads_in, threads_of};
 ghost use Rattle.mm_flow.specs.reading.Assembling.{WhenFull};
@@ -18,7 +19,6 @@ use mm_flow::mentions::labels_in;
 use mm_flow::names::Parts;
 use mm_goto::{Ident, Instr, NoMemory, Program, Thread};
 use mm_tree::{Item, Side, Tree};
-use mm_valid::valid_program;
 use std::alloc::Global;
 
 /// How deep the functions that make the code may call each other.
@@ -138,6 +138,7 @@ fn within_limits(
     side: Side,
     threads: Vec<Thread>,
 ) -> Result<Program, FlatFault>
+    requires valid { passed_behind side items.now parts.now threads.items ≡ None → IsValid (listing parts.now items.now threads.items) }
     ensures program { IfOk result (λ p. p ≡ listing parts.now items.now threads.items) }
     ensures within { OnOk result (passed_behind side items.now parts.now threads.items ≡ None) }
     ensures too_many { IfErr result (λ e. WhenTooMany e (λ l. passed_behind side items.now parts.now threads.items ≡ Some l)) }
@@ -147,10 +148,7 @@ fn within_limits(
     }
     let cells = cells_of(alloc, parts.spots.items(), items)?;
     let mutexes = mutexes_in(alloc, items)?;
-    match valid_program(alloc, cells, mutexes, threads)? {
-        Some(program) => Ok(program),
-        None => Err(FlatFault::NoMemory),
-    }
+    Ok(Program::new(cells, mutexes, threads))
 }
 
 /// The program of the threads of the functions, where no limit is passed from their instructions on.
@@ -161,6 +159,7 @@ fn within_instructions(
     side: Side,
     functions: &[Ident],
 ) -> Result<Program, FlatFault>
+    requires valid { passed_within side items.now parts.now functions.now (map (thread_of parts.now items.now) functions.now) ≡ None → IsValid (listing parts.now items.now (map (thread_of parts.now items.now) functions.now)) }
     ensures program { IfOk result (λ p. p ≡ listing parts.now items.now (map (thread_of parts.now items.now) functions.now)) }
     ensures within { OnOk result (passed_within side items.now parts.now functions.now (map (thread_of parts.now items.now) functions.now) ≡ None) }
     ensures too_many { IfErr result (λ e. WhenTooMany e (λ l. passed_within side items.now parts.now functions.now (map (thread_of parts.now items.now) functions.now) ≡ Some l)) }
@@ -172,9 +171,10 @@ fn within_instructions(
     }
 }
 
-/// The goto program of a checked text. `TooMany` comes exactly where a limit is passed, with the first in the order of the
-/// limits.
+/// The goto program of a checked text, which is valid where it passes no limit (`mm_sourcelike`). `TooMany` comes exactly where a
+/// limit is passed, with the first in the order of the limits.
 pub fn flatten(alloc: Global, tree: &Tree, side: Side) -> Result<Program, FlatFault>
+    requires valid { limit_passed side tree.now ≡ None → IsValid (program_of side tree.now) }
     ensures program { IfOk result (λ p. p ≡ program_of side tree.now) }
     ensures within { OnOk result (limit_passed side tree.now ≡ None) }
     ensures too_many { IfErr result (λ e. WhenTooMany e (λ l. limit_passed side tree.now ≡ Some l)) }

@@ -1,3 +1,9 @@
+mod AnAnswer
+mod FromSmall
+mod OneAnswer
+mod OneAnswerCause
+mod OneAnswerSchedule
+mod Refused
 pub mod Alike
 pub mod Answered
 pub mod Answering
@@ -5,13 +11,8 @@ pub mod Completing
 pub mod Parting
 pub mod Reading
 pub mod Replaying
+pub mod Sound
 pub mod Straight
 pub mod Weaving
 pub mod Wording
 pub mod Writing
-mod AnAnswer
-mod FromSmall
-mod OneAnswer
-mod OneAnswerCause
-mod OneAnswerSchedule
-mod Refused

@@ -11,6 +11,7 @@ ghost use Rattle.mm_tree.specs.declared.side.Side.{Side as SideValue};
 ghost use Rattle.mm_parse.specs.Faults.{IsFault};
 ghost use Rattle.mm_run.specs.Program.{IsProgramText, any, limit_words, small_source};
 ghost use Rattle.mm_run.specs.Refusal.{Rejects, Refuses, Says};
+ghost use Rattle.mm_run.specs.reading.Sound.{FlattensWell, HasSections};
 
 use crate::input::MAX_INPUT;
 use mm_flat::{FlatFault, Limit, flatten};
@@ -126,6 +127,7 @@ fn checked_tree(alloc: Global, text: &str, side: Side) -> Result<Checked, Progra
     requires { length text.now ≤ MAX_INPUT }
     ensures read { IfOk result (λ checked. IsTreeOf side text.now checked.tree) }
     ensures sense { IfOk result (λ checked. MakesSense side checked.tree) }
+    ensures well { IfOk result (λ checked. FlattensWell side checked.tree) }
     ensures refused { IfErr result (λ fault. Rejects side text.now fault) }
 {
     let tree = tree_of(alloc, text, side)?;
@@ -137,8 +139,10 @@ fn checked_tree(alloc: Global, text: &str, side: Side) -> Result<Checked, Progra
 
 /// The goto program of a tree, or which limit it passes.
 fn flat(alloc: Global, tree: &Tree, side: Side) -> Result<Program, ProgramFault>
+    requires well { FlattensWell side tree.now }
     ensures program { IfOk result (λ p. p ≡ flattened side tree.now) }
     ensures within { OnOk result (limit_passed side tree.now ≡ None) }
+    ensures sections { IfOk result (HasSections side) }
     ensures refused { IfErr result (λ fault. (text : List ℕ) → IsTreeOf side text tree.now → MakesSense side tree.now → Rejects side text fault) }
 {
     match flatten(alloc, tree, side) {
@@ -153,6 +157,7 @@ fn flat(alloc: Global, tree: &Tree, side: Side) -> Result<Program, ProgramFault>
 pub fn any_program(alloc: Global, text: &str, side: Side) -> Result<Program, ProgramFault>
     requires { length text.now ≤ MAX_INPUT }
     ensures program { IfOk result (λ program. IsProgramText (any side) text.now program) }
+    ensures sections { IfOk result (HasSections side) }
     ensures refused { IfErr result (λ fault. Rejects side text.now fault) }
 {
     let checked = checked_tree(alloc, text, side)?;

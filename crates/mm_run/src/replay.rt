@@ -1,16 +1,15 @@
-ghost use Rattle.std.specs.Prelude.{◌≡◌, ◌+◌, ◌<◌, ◌≤◌, ◌^◌, ℕ, List, length, codes, nat_eq, IfOk, true, string_bytes};
+ghost use Rattle.std.specs.Prelude.{◌≡◌, ◌+◌, ◌<◌, ◌≤◌, ◌^◌, ℕ, List, length, codes, nat_eq, IfOk, string_bytes};
 ghost use Rattle.std.specs.List.{starts_with};
 ghost use Rattle.std.specs.Str.{chars};
 ghost use Rattle.mm_goto.specs.Listing.{Listing};
 ghost use Rattle.mm_goto.specs.Place.{place_after};
-ghost use Rattle.mm_goto.specs.Sourcelike.{is_section};
 ghost use Rattle.mm_sched.specs.declared.entry.Rules.{Rules as RulesOf};
-ghost use Rattle.mm_sched.specs.Sections.{HasNoSection};
 ghost use Rattle.mm_sched.specs.State.{initial};
 ghost use Rattle.mm_sched.specs.ScheduleText.{IsFault, IsSchedule, entries_in};
 ghost use Rattle.mm_run.specs.Answer.{AnswersParts, Replays};
 ghost use Rattle.mm_run.specs.Lines.{bad_line, refusal_line, stuck_line, verdict_line};
 ghost use Rattle.mm_run.specs.Program.{is_printed, run_by, side_for};
+ghost use Rattle.mm_run.specs.reading.Sound.{CanRun};
 ghost use Rattle.mm_run.specs.reading.Whole.{IsWholeMachine};
 
 use crate::answer::{Answer, answer_fault, refused};
@@ -20,7 +19,7 @@ use crate::parts::split;
 use crate::program::any_program;
 use crate::status::Status;
 use mm_buf::Buf;
-use mm_goto::{Instr, NoMemory, Program};
+use mm_goto::{NoMemory, Program};
 use mm_lexer::end_of;
 use mm_sc::Sc;
 use mm_sched::{Line, Rules, SchedFault, read_schedule};
@@ -73,23 +72,6 @@ fn replay<M: Machine>(alloc: Global, machine: &mut M, lines: &[Line]) -> Result<
     }
 }
 
-// Whether no thread has an atomic section, as none of a source has.
-fn has_no_section(program: &Program) -> bool
-    ensures { result ≡ true → HasNoSection program.now }
-{
-    program.threads().iter().all(|thread| thread
-        .code
-        .items()
-        .iter()
-        .all(|instr| !is_section(instr)))
-}
-
-fn is_section(instr: &Instr) -> bool
-    ensures { result ≡ is_section instr.now }
-{
-    matches!(instr, Instr::AtomBegin | Instr::AtomEnd)
-}
-
 // What the lines of a schedule do on the machine of the rules.
 fn replay_on(
     alloc: Global,
@@ -98,6 +80,7 @@ fn replay_on(
     lines: &[Line],
 ) -> Result<Answer, NoMemory>
     requires whole { IsWholeMachine rules.now }
+    requires sections { CanRun rules.now program.now }
     requires few { length (entries_in lines.now) + 1 < 2 ^ 32 }
     ensures { IfOk result (λ answer. (text : List ℕ) → IsSchedule text lines.now → Replays rules.now program.now text answer.status (string_bytes answer.output)) }
 {
@@ -107,9 +90,6 @@ fn replay_on(
             replay(alloc, &mut machine, lines)
         }
         Rules::Buffered(model, bound) => {
-            if !has_no_section(program) {
-                return Err(NoMemory);
-            }
             let mut machine = Buf::new(alloc, program, *model, *bound)?;
             replay(alloc, &mut machine, lines)
         }
@@ -135,6 +115,7 @@ fn replay_text(
     schedule: &str,
 ) -> Result<Answer, NoMemory>
     requires whole { IsWholeMachine rules.now }
+    requires sections { CanRun rules.now program.now }
     ensures { IfOk result (λ answer. Replays rules.now program.now schedule.now answer.status (string_bytes answer.output)) }
 {
     match read_schedule(alloc, schedule) {

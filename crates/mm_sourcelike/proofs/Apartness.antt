@@ -15,7 +15,7 @@ use Rattle.mm_flow.specs.Programs.{cells_of, cells_of_length, elements, globals_
 use Rattle.mm_names.specs.Items.{ahead}
 use Rattle.mm_names.specs.Programs.{IsAccepted}
 use Rattle.mm_sourcelike.proofs.Cells.{at_left, at_right, element_at, elements_length}
-use Rattle.mm_sourcelike.proofs.Distinct.{EachDiffers, EachOnce, items_once}
+use Rattle.mm_sourcelike.proofs.Distinct.{EachDiffers, EachOnce, items_once, mutexes_among, mutexes_once_each, others_in}
 use Rattle.mm_sourcelike.proofs.Scoping.{none_is_not, same_some}
 use Rattle.mm_sourcelike.proofs.Tables.{itself, true_is_not}
 use Rattle.mm_sourcelike.proofs.Validity.{accepted_notes, all_at_index}
@@ -123,8 +123,8 @@ names_apart side tree accepted =
     let once = items_once side tree.items 0 tree.items (ahead [] 0 tree.items) (accepted_notes side tree accepted) in
     record {
       cells = λ c d a b e f n. cells_apart (parts_of side tree.items).spots (globals_in tree.items) once.globals c d a b e f n;
-      mutexes = λ m n x e f. mutexes_apart (mutexes_in tree.items) once.mutexes m n x e f;
+      mutexes = λ m n x e f. mutexes_apart (mutexes_in tree.items) (mutexes_once_each tree.items once.mutexes) m n x e f;
       neither = λ c m a x e f same.
           clash a.name x same (all_at_index (λ y. bytes_eq a.name y ≡ false) (mutexes_in tree.items) m x
-          (cell_name (λ y. AllByRecursion (λ z. bytes_eq y z ≡ false) (mutexes_in tree.items)) (parts_of side tree.items).spots (globals_in tree.items) once.neither c a e) f);
+          (mutexes_among (λ z. bytes_eq a.name z ≡ false) tree.items (cell_name (λ y. AllByRecursion (λ z. bytes_eq y z ≡ false) (others_in tree.items)) (parts_of side tree.items).spots (globals_in tree.items) once.neither c a e)) f);
     }

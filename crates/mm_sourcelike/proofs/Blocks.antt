@@ -1,5 +1,5 @@
 -- Statements with statements in them: what is done by them agrees with what is said where their parts do.
-use Rattle.std.proofs.Common.{arith, ◌≡◌, ℕ, ℤ, ◌≤◌, Bool, true, false, ◌&&◌, not, List, [], ◌∷◌, ◌++◌, refl, ◌∙◌, sym, ap, subst, append_assoc, Option, Some, None}
+use Rattle.std.proofs.Common.{arith, ◌≡◌, ℕ, ℤ, pos, ◌≤◌, Bool, true, false, ◌&&◌, not, List, [], ◌∷◌, ◌++◌, refl, ◌∙◌, sym, ap, subst, append_assoc, Option, Some, None}
 use Rattle.std.specs.List.{AllByRecursion}
 use Rattle.mm_goto.specs.declared.ident.At.{At}
 use Rattle.mm_goto.specs.declared.program.Thread.{Thread}
@@ -8,7 +8,7 @@ use Rattle.mm_goto.specs.Valid.{IsInt}
 use Rattle.mm_tree.specs.declared.expr.Expr.{Expr}
 use Rattle.mm_tree.specs.declared.item.Item.{Item}
 use Rattle.mm_flow.specs.declared.names.Named.{Named}
-use Rattle.mm_flow.specs.Expressions.{Val}
+use Rattle.mm_flow.specs.Expressions.{Val, one_value}
 use Rattle.mm_flow.specs.Statements.{Known, Did, Doing, Within, scope, reads, from, in_order, inner as inside, if_code, choice_code, while_code, do_code, optional, condition, for_code}
 use Rattle.mm_scope.specs.declared.around.Around.{Around}
 use Rattle.mm_scope.specs.Expressions.{judged_expr}
@@ -24,7 +24,11 @@ use Rattle.mm_sourcelike.proofs.Growth.{grows}
 use Rattle.mm_sourcelike.proofs.Lengthening.{Long, Lengthens, condition_grows}
 use Rattle.mm_sourcelike.proofs.Pures.{one_in}
 use Rattle.mm_sourcelike.proofs.Scoping.{NoFault, fault_left, fault_right, Sees, Reads}
-use Rattle.mm_sourcelike.proofs.Standing.{HasRoom, FlowAt, Does, Agrees, sees_nil, reads_with, reads_nil, at_once, within, room_before, room_inside}
+use Rattle.mm_sourcelike.proofs.Standing.{HasRoom, FlowAt, FlowTyped, Done, Does, Agrees, names_kept, test_typed, sees_nil, reads_with, reads_nil, at_once, within, room_before, room_inside}
+use Rattle.mm_sourcelike.proofs.TypedExpressions.{FitsFlow, FitsTest}
+use Rattle.mm_sourcelike.proofs.TypedNames.{GlobalsFit, SeesTypes, types_nil}
+use Rattle.mm_sourcelike.proofs.TypedPures.{constant_tidy, int_typed, one_is}
+use Rattle.mm_sourcelike.proofs.Typing.{Typing, both, over, still}
 use Rattle.mm_sourcelike.proofs.Valuing.{IsGood, test_first, test_second}
 
 module _ (p : Listing) (t : Thread) (items : List Item) where
@@ -32,13 +36,13 @@ module _ (p : Listing) (t : Thread) (items : List Item) where
 
   pub none_done : Does p t items (λ a. all_at a []) (in_order []) [] true
   unfolding all_at in_turn skip
-  none_done a names w k h = record { flow = tt; starts = λ e. refl; sees = sees_nil names.locals k.names h.reads.sees; thread = h.reads.locals }
+  none_done a names w k h = record { flow = tt; starts = λ e. refl; sees = sees_nil names.locals k.names h.reads.sees; thread = h.reads.locals; typed = λ g c. still k.next _ (λ q ret seen. (tt, types_nil q names.locals k.names seen)) }
 
   pub more_done : (s : Placed) (d : Doing) (z : List ℤ) (b : Bool) (ss : List Placed) (ds : List Doing) (zs : List ℤ) (c : Bool)
-      → Does p t items s d z b → Long (in_order ds) → Does p t items (λ a. all_at a ss) (in_order ds) zs c
+      → Does p t items s d z b → Long d → Long (in_order ds) → Does p t items (λ a. all_at a ss) (in_order ds) zs c
       → Does p t items (λ a. all_at a (s ∷ ss)) (in_order (d ∷ ds)) (z ++ zs) (b && c)
   unfolding all_at in_turn and_then
-  more_done s d z b ss ds zs c does long rest a names w k h =
+  more_done s d z b ss ds zs c does first long rest a names w k h =
       let step : Step = s a in
       let said : Said = s a names in
       let mid : Known = (d w k).known in
@@ -67,7 +71,16 @@ module _ (p : Listing) (t : Thread) (items : List Item) where
         starts = λ e. two.starts e ∙ one.starts e;
         sees = subst (λ (ls : List NamedAs). Sees ls after.known.names) (append_assoc names.locals said.declared (all_at a ss before).declared) two.sees;
         thread = two.thread;
+        typed = λ g c. over k.next after.known.next _ _ (λ q r ret seen.
+            let x = r.0 ret seen in
+            let y = r.1 ret x.1 in
+            ((x.0, y.0), subst (λ (ls : List NamedAs). SeesTypes q ls after.known.names) (append_assoc names.locals said.declared (all_at a ss before).declared) y.1))
+            (both k.next mid.next after.known.next _ _ (first w h.good.grow k).next (long w h.good.grow mid).next (one.typed g c) (two.typed g c));
       }
+
+  -- the code alone
+  flow_only : {said : Said} {d : Did} (w : Within) (a : Around) (names : Names) (k : Known) → Done p t items w a names k said d → FlowTyped p items w a names k d.flow d.known.next
+  flow_only {said = said} {d = d} w a names k h g c = over k.next d.known.next _ _ (λ q r ret seen. (r ret seen).0) (h.typed g c)
 
   pub block_agrees : (ss : List Placed) (ds : List Doing) (zs : List ℤ) (b : Bool) → Does p t items (λ a. all_at a ss) (in_order ds) zs b → Agrees p t items (λ a. block a ss) (inside (in_order ds)) zs (whole b)
   unfolding block closed
@@ -88,6 +101,7 @@ module _ (p : Listing) (t : Thread) (items : List Item) where
           starts = λ e. one.starts refl;
           sees = sees_nil names.locals k.names h.reads.sees;
           thread = h.reads.locals;
+          typed = names_kept p items w a names k (in_order ds w k).flow (in_order ds w k).known.next [] refl (flow_only w (inner a names) names k one);
         };
   }
 
@@ -113,7 +127,7 @@ module _ (p : Listing) (t : Thread) (items : List Item) where
   part_done : (s : Placed) (d : Doing) (zs : List ℤ) (shape : Shape) → Agrees p t items s d zs shape → is_closed shape ≡ true → (outer : Bool) (last : Known) (a : Around) (names : Names) (w : Within) (k : Known)
       → IsGood p t items w → a.side ≡ w.parts.side → a.outermost ≡ false → Reads p t items w.parts.spots k.names names → AllByRecursion IsInt zs → NoFault (s a names).notes
       → HasRoom p t outer last → (d w k).known.next ≤ last.next → (d w k).known.seen.asserts ≤ last.seen.asserts
-      → FlowAt p t outer (d w k).flow × ((d w k).known.seen.starts ≡ k.seen.starts)
+      → FlowAt p t outer (d w k).flow × ((d w k).known.seen.starts ≡ k.seen.starts) × FlowTyped p items w a names k (d w k).flow (d w k).known.next
   part_done s d zs shape g e outer last a names w k good side out r i f room m n =
       let one = g.does a names w k (record {
         good = good;
@@ -124,10 +138,14 @@ module _ (p : Listing) (t : Thread) (items : List Item) where
         fine = f;
         room = subst (λ b. HasRoom p t b (d w k).known) (sym out) (room_inside p t outer last (d w k).known m n room);
       }) in
-      (within p t outer (d w k).flow (subst (λ b. FlowAt p t b (d w k).flow) out one.flow), one.starts out)
+      (within p t outer (d w k).flow (subst (λ b. FlowAt p t b (d w k).flow) out one.flow), one.starts out, flow_only w a names k one)
 
   value_at : (w : Within) (ns : List Named) (names : Names) (e : Expr) (n : ℕ) → Reads p t items w.parts.spots ns names → AllByRecursion IsInt (numbers_of e) → NoFault (judged_expr names e).notes → (reads w ns e n).next ≤ t.locals → ValIn p t (reads w ns e n)
   value_at w ns names e n r i f l = expr_fine p t items names e (scope w ns) n r i f l
+
+  -- names that stand for the same behind what declares none
+  seen_quiet : (q : ℕ → Bool) (ns : List Named) (locals declared : List NamedAs) → declared ≡ [] → SeesTypes q locals ns → SeesTypes q (locals ++ declared) ns
+  seen_quiet q ns locals declared e h = subst (λ (ds : List NamedAs). SeesTypes q (locals ++ ds) ns) (sym e) (types_nil q locals ns h)
 
   -- the names behind an expression
   abbrev behind_value : Names → Names
@@ -158,6 +176,10 @@ module _ (p : Listing) (t : Thread) (items : List Item) where
           starts = λ e. one.1;
           sees = sees_quiet k.names names.locals (choice a c s None names).declared (quiet closed a names) h.reads.sees;
           thread = h.reads.locals;
+          typed = names_kept p items w a names k (if_code at c d w k).flow (d w j).known.next (choice a c s None names).declared (quiet closed a names) (λ g0 c0. over k.next (d w j).known.next _ _ (λ q r ret seen.
+              let x = r.0 seen in (x.0, (x.1, r.1 ret (types_nil q names.locals k.names seen))))
+              (both k.next v.next (d w j).known.next _ _ (grows c (scope w k.names) k.next) l.next
+              (test_typed p t items w k.names names c k.next h.reads (fault_left (judged_expr names c).notes (notes ++ []) h.fine) g0) (one.2 g0 c0)));
         };
   }
     where
@@ -197,6 +219,13 @@ module _ (p : Listing) (t : Thread) (items : List Item) where
           starts = λ q. two.1 ∙ one.1;
           sees = sees_quiet k.names names.locals (choice a c s (Some o) names).declared (quiet first second a names) h.reads.sees;
           thread = h.reads.locals;
+          typed = names_kept p items w a names k (choice_code at c d e w k).flow (e w i).known.next (choice a c s (Some o) names).declared (quiet first second a names) (λ g0 c0. over k.next (e w i).known.next _ _ (λ q r ret seen.
+              let x = r.0 seen in
+              let seen1 = types_nil q names.locals k.names seen in
+              (x.0, (x.1, r.1.0 ret seen1, r.1.1 ret (seen_quiet q k.names names1.locals (s (guarded a) names1).declared (closed_quiet s d z shape g first (guarded a) names1) seen1))))
+              (both k.next v.next (e w i).known.next _ _ (grows c (scope w k.names) k.next) (omega (arith, l.next, m.next))
+              (test_typed p t items w k.names names c k.next h.reads (fault_left (judged_expr names c).notes (notes ++ more) h.fine) g0)
+              (both v.next i.next (e w i).known.next _ _ l.next m.next (one.2 g0 c0) (two.2 g0 c0))));
         };
   }
     where
@@ -229,6 +258,10 @@ module _ (p : Listing) (t : Thread) (items : List Item) where
           starts = λ e. one.1;
           sees = sees_quiet k.names names.locals (s (in_loop a) names1).declared (closed_quiet s d z shape g h.scoped (in_loop a) names1) h.reads.sees;
           thread = h.reads.locals;
+          typed = names_kept p items w a names k (while_code at c d w k).flow (d w j).known.next (s (in_loop a) names1).declared (closed_quiet s d z shape g h.scoped (in_loop a) names1) (λ g0 c0. over k.next (d w j).known.next _ _ (λ q r ret seen.
+              let x = r.0 seen in (x.0, x.1, r.1 ret (types_nil q names.locals k.names seen)))
+              (both k.next v.next (d w j).known.next _ _ (grows c (scope w k.names) k.next) l.next
+              (test_typed p t items w k.names names c k.next h.reads (fault_left (judged_expr names c).notes notes h.fine) g0) (one.2 g0 c0)));
         };
   }
 
@@ -254,6 +287,11 @@ module _ (p : Listing) (t : Thread) (items : List Item) where
           starts = λ e. one.1;
           sees = sees_quiet k.names names.locals ((s (in_loop a) names).declared ++ []) (quiet h.scoped a names) h.reads.sees;
           thread = h.reads.locals;
+          typed = names_kept p items w a names k (do_code at d c w k).flow v.next ((s (in_loop a) names).declared ++ []) (quiet h.scoped a names) (λ g0 c0. over k.next v.next _ _ (λ q r ret seen.
+              let x = r.1 (seen_quiet q k.names names.locals (s (in_loop a) names).declared (closed_quiet s d z shape g h.scoped (in_loop a) names) seen) in
+              (r.0 ret seen, x.0, x.1))
+              (both k.next i.next v.next _ _ (long_of w h.good.grow k).next up (one.2 g0 c0)
+              (test_typed p t items w k.names names1 c i.next (reads_quiet w k.names names (s (in_loop a) names).declared (closed_quiet s d z shape g h.scoped (in_loop a) names) h.reads) (fault_right notes (judged_expr names1 c).notes h.fine) g0)));
         };
   }
     where
@@ -265,12 +303,17 @@ module _ (p : Listing) (t : Thread) (items : List Item) where
   unfolding skip
   none_agrees = record {
     quiet = λ e f a names. refl;
-    does = λ a names w k h. record { flow = tt; starts = λ e. refl; sees = sees_nil names.locals k.names h.reads.sees; thread = h.reads.locals };
+    does = λ a names w k h. record { flow = tt; starts = λ e. refl; sees = sees_nil names.locals k.names h.reads.sees; thread = h.reads.locals; typed = λ g c. still k.next _ (λ q ret seen. (tt, types_nil q names.locals k.names seen)) };
   }
 
   condition_at : (c : Option Expr) (w : Within) (ns : List Named) (names : Names) (n : ℕ) → Reads p t items w.parts.spots ns names → AllByRecursion IsInt (of_condition c) → NoFault (if_there noted_expr c names).notes → (condition (scope w ns) c n).next ≤ t.locals → ValIn p t (condition (scope w ns) c n)
   condition_at None w ns names n r i f l = record { flow = tt; pure = one_in p t }
   condition_at (Some c) w ns names n r i f l = value_at w ns names c n r i f l
+
+  condition_typed : (c : Option Expr) (w : Within) (ns : List Named) (names : Names) (n : ℕ) → Reads p t items w.parts.spots ns names → NoFault (if_there noted_expr c names).notes → GlobalsFit p items w.parts.spots
+      → Typing n (condition (scope w ns) c n).next (λ q. SeesTypes q names.locals ns → FitsFlow p q (condition (scope w ns) c n).flow × FitsTest p q (condition (scope w ns) c n).pure)
+  condition_typed None w ns names n r f g = still n _ (λ q seen. (tt, (int_typed q one_value (one_is q), constant_tidy p (pos 1))))
+  condition_typed (Some c) w ns names n r f g = test_typed p t items w ns names c n r f g
 
   condition_quiet : (c : Option Expr) (names : Names) → (if_there noted_expr c names).declared ≡ []
   unfolding skip
@@ -278,10 +321,10 @@ module _ (p : Listing) (t : Thread) (items : List Item) where
   condition_quiet (Some c) names = refl
 
   pub for_agrees : (at : At) (first : Option Placed) (i : Option Doing) (zi : List ℤ) (si : Shape) (c : Option Expr) (next : Option Placed) (j : Option Doing) (zj : List ℤ) (sj : Shape) (s : Placed) (d : Doing) (z : List ℤ) (shape : Shape)
-      → Agrees p t items (λ a. if_some a first) (optional i) zi si → Agrees p t items (λ a. if_some a next) (optional j) zj sj → Long (optional j) → Agrees p t items s d z shape → Long d
+      → Agrees p t items (λ a. if_some a first) (optional i) zi si → Long (optional i) → Agrees p t items (λ a. if_some a next) (optional j) zj sj → Long (optional j) → Agrees p t items s d z shape → Long d
       → Agrees p t items (λ a. for_loop a first c next s) (inside (for_code at i c j d)) (zi ++ (of_condition c ++ (zj ++ z))) (whole (si.is_scoped && (is_closed sj && is_closed shape)))
   unfolding for_loop closed and_then for_code
-  for_agrees at first i zi si c next j zj sj s d z shape gi gj lj g gl = record {
+  for_agrees at first i zi si c next j zj sj s d z shape gi li gj lj g gl = record {
     quiet = λ e f a names. refl;
     does = λ a0 names0 w k h.
         let a : Around = inner a0 names0 in
@@ -327,5 +370,14 @@ module _ (p : Listing) (t : Thread) (items : List Item) where
           starts = λ e. step.1 ∙ (body.1 ∙ one.starts refl);
           sees = sees_nil names0.locals k.names h.reads.sees;
           thread = h.reads.locals;
+          typed = names_kept p items w a0 names0 k (for_code at i c j d w k).flow last.next [] refl (λ g0 c0. over k.next last.next _ _ (λ q r ret seen.
+              let x = r.0 ret seen in
+              let y = r.1.0 x.1 in
+              let seen2 = seen_quiet q k1.names names1.locals said2.declared (condition_quiet c names1) x.1 in
+              let seen3 = seen_quiet q k1.names names2.locals said3.declared (closed_quiet (λ b. if_some b next) (optional j) zj sj gj closed_j a names2) seen2 in
+              (x.0, (y.0, y.1, r.1.1.0 ret seen3, r.1.1.1 ret seen2)))
+              (both k.next k1.next last.next _ _ (li w h.good.grow k).next (omega (arith, up, ls.next, le.next)) (one.typed g0 c0)
+              (both k1.next v.next last.next _ _ up (omega (arith, ls.next, le.next)) (condition_typed c w k1.names names1 k1.next reads1 (fault_left said2.notes (said3.notes ++ notes) f1) g0)
+              (both v.next k3.next last.next _ _ ls.next le.next (body.2 g0 c0) (step.2 g0 c0)))));
         };
   }

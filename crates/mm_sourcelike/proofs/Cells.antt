@@ -44,7 +44,7 @@ elements_length ss g i zero es = refl
 elements_length ss g i (suc n) [] = ap suc (elements_length ss g (i + 1) n [])
 elements_length ss g i (suc n) (e ∷ es) = ap suc (elements_length ss g (i + 1) n es)
 
-part_length : (ss : List Spot) (g : Global) (len : Option ℤ) → length (cells_of_length ss g len) ≡ length_of len
+pub part_length : (ss : List Spot) (g : Global) (len : Option ℤ) → length (cells_of_length ss g len) ≡ length_of len
 part_length ss g (Some n) = elements_length ss g 0 (natural n) g.init
 part_length ss g None = refl
 
@@ -74,7 +74,7 @@ element_at ss g i (suc n) (e ∷ es) (suc k) h =
 abbrev pub row_of : Spot → Row
 row_of s = record { first = s.first; len = s.len }
 
-some_and : {A : Type 0} (P : A → Type 0) (o : Option A) (x : A) → o ≡ Some x → P x → IsSomeAnd o P
+pub some_and : {A : Type 0} (P : A → Type 0) (o : Option A) (x : A) → o ≡ Some x → P x → IsSomeAnd o P
 some_and P o x e h = subst (λ q. IsSomeAnd q P) (sym e) h
 
 next_element : (name : Ident) (i : ℕ) (pointer : Bool) (a b : Cell) → IsElement name i pointer a → IsElement name (i + 1) pointer b → IsNextElement a b
@@ -110,7 +110,7 @@ one_row : (ss : List Spot) (g : Global) (len : Option ℤ) (xs ys : List Cell) �
 one_row ss g (Some n) xs ys h = array_row ss g (natural n) xs ys h
 one_row ss g None xs ys h = single_row _ (length xs) (omega (arith, length-append xs (record { name = g.name; index = None; pointer = g.pointer; init = first_start ss g.init } ∷ ys)))
 
-uncapped : (n : ℕ) → n < 2 ^ 32 → capped n ≡ n
+pub uncapped : (n : ℕ) → n < 2 ^ 32 → capped n ≡ n
 uncapped n h = by (nat_lt n (2 ^ 32)) refl
   where
     by : (b : Bool) → nat_lt n (2 ^ 32) ≡ b → (if b then n else 4294967295) ≡ n

@@ -107,7 +107,7 @@ known_chosen X c x y f h g =
     by_wants X (chosen c x y) _ (fold_chosen checked_step c x y)
     (both_all X (checks_of c ++ checks_of x) (checks_of y) (both_all X (checks_of c) (checks_of x) f h) g)
 
-false_is_not : {A : Type 0} → false ≡ true → A
+pub false_is_not : {A : Type 0} → false ≡ true → A
 false_is_not e = absurd (by e)
   where
     by : false ≡ true → ⊥

@@ -36,7 +36,7 @@ fold_chosen {C = C} step c x y = fold-roll-Pure C step (pure.Cond c x y)
 
 -- ---- what stands in a thread
 
-larger_at_most : (m n k : ℕ) → m ≤ k → n ≤ k → larger m n ≤ k
+pub larger_at_most : (m n k : ℕ) → m ≤ k → n ≤ k → larger m n ≤ k
 larger_at_most m n k p q = by (nat_lt m n)
   where
     by : (b : Bool) → (if b then n else m) ≤ k

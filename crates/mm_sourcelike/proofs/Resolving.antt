@@ -57,8 +57,8 @@ module _ (spots : List Spot) (mutexes : List Ident) (items : List Item) (named :
   variable_local meaning.Label s f = absurd s
 
   variable_global : (m : Meaning) → Means spots mutexes items x m → NoFault (judged_meaning sort.Variable at (Some m)).notes → HasSpot spots x
-  variable_global meaning.Shared s f = s
-  variable_global meaning.Pointer s f = s
+  variable_global meaning.Shared s f = record { spot = s.spot; is = s.is }
+  variable_global meaning.Pointer s f = record { spot = s.spot; is = s.is }
   variable_global meaning.Int s f = absurd s
   variable_global meaning.Thread s f = absurd s
   variable_global meaning.Handed s f = absurd s
@@ -88,8 +88,8 @@ module _ (spots : List Spot) (mutexes : List Ident) (items : List Item) (named :
 
   array_global : (m : Meaning) → Means spots mutexes items x m → NoFault (judged_meaning sort.Array at (Some m)).notes → HasSpot spots x
   array_global (meaning.Array n) s f = record { spot = s.spot; is = s.is }
-  array_global meaning.Shared s f = s
-  array_global meaning.Pointer s f = s
+  array_global meaning.Shared s f = record { spot = s.spot; is = s.is }
+  array_global meaning.Pointer s f = record { spot = s.spot; is = s.is }
   array_global meaning.Int s f = absurd s
   array_global meaning.Thread s f = absurd s
   array_global meaning.Handed s f = absurd s
@@ -117,8 +117,8 @@ module _ (spots : List Spot) (mutexes : List Ident) (items : List Item) (named :
   shared_local meaning.Label s f = s
 
   shared_global : (m : Meaning) → Means spots mutexes items x m → NoFault (judged_meaning sort.Shared at (Some m)).notes → HasSpot spots x
-  shared_global meaning.Shared s f = s
-  shared_global meaning.Pointer s f = s
+  shared_global meaning.Shared s f = record { spot = s.spot; is = s.is }
+  shared_global meaning.Pointer s f = record { spot = s.spot; is = s.is }
   shared_global (meaning.Array n) s f = absurd f
   shared_global meaning.Int s f = absurd s
   shared_global meaning.Thread s f = absurd s

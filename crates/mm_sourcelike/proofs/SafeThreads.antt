@@ -10,6 +10,7 @@ use Rattle.mm_goto.specs.declared.program.Instr.TheVariants as instr
 use Rattle.mm_goto.specs.declared.program.Thread.{Thread}
 use Rattle.mm_goto.specs.Listing.{Listing}
 use Rattle.mm_goto.specs.Sourcelike.{IsGuarded, UpdatesApart, is_section}
+use Rattle.mm_tree.specs.declared.item.Gives.{Gives}
 use Rattle.mm_tree.specs.declared.item.Item.{Item}
 use Rattle.mm_tree.specs.declared.item.Param.{Param}
 use Rattle.mm_tree.specs.declared.side.Side.TheVariants.{Source}
@@ -79,10 +80,11 @@ module _ (p : Listing) (items : List Item) (parts : Parts) (text : AcceptedText 
   -- a function that is accepted
   record IsAcceptedFunction (f : Function) : Type 0 where
     params : List Param
-    accepted : AcceptedFunction p items parts f params
+    gives : Gives
+    accepted : AcceptedFunction p items parts f params gives
 
   callable : (x : Ident) (k : ℕ) (h : HasFunction items x k) (f : Function) → can_be_called x h.gives ≡ true → function_of items parts.asserts x ≡ Some f → (length h.params ≡ length f.params) × IsAcceptedFunction f
-  callable x k h f c e = let a = text.functions x k h f c e in (sym a.count, record { params = h.params; accepted = a })
+  callable x k h f c e = let a = text.functions x k h f c e in (sym a.count, record { params = h.params; gives = h.gives; accepted = a })
 
   fits : (outermost : Bool) (named_at : ℕ → List Named) (body : List Stmt) → AcceptedBody p items parts outermost named_at body → AllFit parts items IsAcceptedFunction (deeds_in body)
   fits outermost named_at body b =

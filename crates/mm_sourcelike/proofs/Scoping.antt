@@ -1,5 +1,5 @@
 -- What names stand for where a text is accepted, and what they stand for where it is flattened.
-use Rattle.std.proofs.Common.{◌≡◌, ℕ, ℤ, ◌<◌, ◌^◌, nat_eq, Bool, true, false, cond, if◌then◌else◌, List, [], ◌∷◌, ◌++◌, length, reverse, refl, ◌∙◌, ap, Some, None, codes}
+use Rattle.std.proofs.Common.{◌≡◌, ℕ, ℤ, ◌<◌, ◌^◌, nat_eq, Bool, true, false, cond, if◌then◌else◌, List, [], ◌∷◌, ◌++◌, length, reverse, refl, ◌∙◌, ap, Option, Some, None, codes}
 use Rattle.std.specs.List.{AllByRecursion, slice_get, find, starts_with}
 use Rattle.std.specs.Option.{option_map}
 use Rattle.std.specs.Str.{bytes_eq}
@@ -10,6 +10,7 @@ use Rattle.mm_goto.specs.declared.program.Thread.{Thread}
 use Rattle.mm_goto.specs.Listing.{Listing}
 use Rattle.mm_goto.specs.Valid.{IsRow}
 use Rattle.mm_tree.specs.declared.item.Gives.{Gives}
+use Rattle.mm_tree.specs.declared.item.Global.{Global}
 use Rattle.mm_tree.specs.declared.item.Item.{Item}
 use Rattle.mm_tree.specs.declared.item.Item.TheVariants as item
 use Rattle.mm_tree.specs.declared.item.Param.{Param}
@@ -17,7 +18,7 @@ use Rattle.mm_tree.specs.declared.stmt.Stmt.{Stmt}
 use Rattle.mm_flow.specs.declared.names.Named.{Named}
 use Rattle.mm_flow.specs.declared.names.Spot.{Spot}
 use Rattle.mm_flow.specs.Scopes.{named, local_of, spot_of, index_of}
-use Rattle.mm_flow.specs.Programs.{natural}
+use Rattle.mm_flow.specs.Programs.{globals_in, natural}
 use Rattle.mm_scope.specs.declared.table.Meaning.{Meaning}
 use Rattle.mm_scope.specs.declared.table.Meaning.TheVariants as meaning
 use Rattle.mm_scope.specs.Notes.{Note, a_fault, a_call, a_use, an_assertion}
@@ -54,10 +55,26 @@ pub record HasSpot (spots : List Spot) (x : Ident) : Type 0 where
   pub spot : Spot
   pub is : spot_of spots x ≡ Some spot
 
-pub record HasArray (spots : List Spot) (x : Ident) (n : ℤ) : Type 0 where
+-- a global of the text has the name, and is a pointer and an array as this says
+pub record IsGlobalOf (items : List Item) (x : Ident) (pointer : Bool) (len : Option ℤ) : Type 0 where
+  pub place : ℕ
+  pub global : Global
+  pub is : slice_get (globals_in items) place ≡ Some global
+  pub name : global.name ≡ x
+  pub pointer_is : global.pointer ≡ pointer
+  pub len_is : global.len ≡ len
+
+pub record HasVariable (spots : List Spot) (items : List Item) (x : Ident) (pointer : Bool) : Type 0 where
+  pub spot : Spot
+  pub is : spot_of spots x ≡ Some spot
+  pub global : IsGlobalOf items x pointer None
+
+pub record HasArray (spots : List Spot) (items : List Item) (x : Ident) (n : ℤ) : Type 0 where
   pub spot : Spot
   pub is : spot_of spots x ≡ Some spot
   pub len : spot.len ≡ natural n
+  pub pointer : Bool
+  pub global : IsGlobalOf items x pointer (Some n)
 
 pub record HasMutex (mutexes : List Ident) (x : Ident) : Type 0 where
   pub index : ℕ
@@ -76,9 +93,9 @@ pub record HasLocal (names : List Named) (x : Ident) : Type 0 where
 
 -- what globals, mutexes and functions are, where a global name has this meaning
 abbrev pub Means : List Spot → List Ident → List Item → Ident → Meaning → Type 0
-Means spots mutexes items x meaning.Shared = HasSpot spots x
-Means spots mutexes items x meaning.Pointer = HasSpot spots x
-Means spots mutexes items x (meaning.Array n) = HasArray spots x n
+Means spots mutexes items x meaning.Shared = HasVariable spots items x false
+Means spots mutexes items x meaning.Pointer = HasVariable spots items x true
+Means spots mutexes items x (meaning.Array n) = HasArray spots items x n
 Means spots mutexes items x meaning.Mutex = HasMutex mutexes x
 Means spots mutexes items x meaning.SharedThread = Unit {0}
 Means spots mutexes items x (meaning.Function k) = HasFunction items x k

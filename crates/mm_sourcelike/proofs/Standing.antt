@@ -1,33 +1,45 @@
 -- The code of a statement that is accepted stands in its thread, and the names behind it stand for its locals.
-use Rattle.std.proofs.Common.{arith, ◌≡◌, ℕ, ℤ, ◌<◌, ◌≤◌, ◌^◌, Bool, true, false, if◌then◌else◌, List, [], ◌∷◌, ◌++◌, length, refl, ◌∙◌, sym, ap, subst, Option, Some}
+use Rattle.std.proofs.Common.{arith, ◌≡◌, ℕ, ℤ, ◌<◌, ◌≤◌, ◌^◌, Bool, true, false, if◌then◌else◌, List, [], ◌∷◌, ◌++◌, length, refl, ◌∙◌, sym, ap, subst, Option, Some, None}
 use Rattle.std.specs.List.{AllByRecursion}
 use Rattle.std.specs.Str.{bytes_eq}
 use Rattle.std.proofs.lemmas.List.{append-nil}
 use Rattle.mm_goto.specs.declared.ident.Ident.{Ident}
 use Rattle.mm_goto.specs.declared.program.Instr.{Instr}
 use Rattle.mm_goto.specs.declared.program.Thread.{Thread}
+use Rattle.mm_goto.specs.Kinds.{kinds_of}
 use Rattle.mm_goto.specs.Listing.{Listing}
 use Rattle.mm_goto.specs.Sourcelike.{is_start_or_join}
 use Rattle.mm_goto.specs.Valid.{IsInt, IsPureIn, IsInstrIn}
+use Rattle.mm_tree.specs.declared.expr.Expr.{Expr}
+use Rattle.mm_tree.specs.declared.item.Gives.{Gives}
+use Rattle.mm_tree.specs.declared.item.Gives.TheVariants as gives
 use Rattle.mm_tree.specs.declared.item.Item.{Item}
 use Rattle.mm_flow.specs.declared.names.Named.{Named}
 use Rattle.mm_flow.specs.declared.names.Spot.{Spot}
+use Rattle.mm_flow.specs.Expressions.{Val}
 use Rattle.mm_flow.specs.Flow.{Flow}
 use Rattle.mm_flow.specs.Scopes.{named, local_of}
-use Rattle.mm_flow.specs.Statements.{Known, Did, Doing, Within, declared}
+use Rattle.mm_flow.specs.Statements.{Known, Did, Doing, Within, declared, reads, scope}
 use Rattle.mm_scope.specs.declared.around.Around.{Around}
+use Rattle.mm_scope.specs.declared.operand.Operand.{Operand}
 use Rattle.mm_scope.specs.declared.table.Meaning.{Meaning}
 use Rattle.mm_scope.specs.declared.table.Meaning.TheVariants as meaning
 use Rattle.mm_scope.specs.Declarations.{meaning_of_local}
+use Rattle.mm_scope.specs.Expressions.{judged_expr}
 use Rattle.mm_scope.specs.Notes.{Note}
 use Rattle.mm_scope.specs.Scopes.{Names, Named as NamedAs, named_as, found}
 use Rattle.mm_scope.specs.Steps.{Said, noting}
 use Rattle.mm_scope.specs.Statements.{Placed}
 use Rattle.mm_sourcelike.specs.Shapes.{Shape}
 use Rattle.mm_sourcelike.proofs.Evaluating.{IsStepIn, FlowIn}
+use Rattle.mm_sourcelike.proofs.Judging.{typed_of}
 use Rattle.mm_sourcelike.proofs.Laying.{Each, weaker}
 use Rattle.mm_sourcelike.proofs.Lengthening.{Lengthens}
 use Rattle.mm_sourcelike.proofs.Scoping.{NoFault, Stands, Sees, AreLocals, Reads, found_push, local_push, same_some}
+use Rattle.mm_sourcelike.proofs.TypedExpressions.{FitsFlow, FitsTest, FitsVal, expr_typed}
+use Rattle.mm_sourcelike.proofs.TypedNames.{GlobalsFit, SeesTypes, types_nil}
+use Rattle.mm_sourcelike.proofs.TypedValues.{TypedCalls}
+use Rattle.mm_sourcelike.proofs.Typing.{Typing, still, over}
 use Rattle.mm_sourcelike.proofs.Valuing.{IsGood}
 
 -- there is room for what is known behind a statement
@@ -43,11 +55,31 @@ IsInstrAt p t outermost i = IsInstrIn p t i × (outermost ≡ false → is_start
 abbrev pub FlowAt : Listing → Thread → Bool → Flow → Type 0
 FlowAt p t outermost f = Each (IsInstrAt p t outermost) (IsPureIn p t) f
 
-pub record Done (p : Listing) (t : Thread) (outermost : Bool) (locals : List NamedAs) (k : Known) (said : Said) (d : Did) : Type 0 where
-  pub flow : FlowAt p t outermost d.flow
-  pub starts : outermost ≡ false → d.known.seen.starts ≡ k.seen.starts
-  pub sees : Sees (locals ++ said.declared) d.known.names
+-- the local for what a function gives has its type
+abbrev pub RetFits : (ℕ → Bool) → Option ℕ → Gives → Type 0
+RetFits q None g = Unit {0}
+RetFits q (Some l) gives.Int = q l ≡ false
+RetFits q (Some l) gives.Pointer = q l ≡ true
+RetFits q (Some l) gives.Nothing = q l ≡ false
+RetFits q (Some l) gives.Thread = ⊥
+
+-- where globals have cells of their types and the code of called functions has types, there are types for the fresh locals
+abbrev pub FlowTyped : Listing → List Item → Within → Around → Names → Known → Flow → ℕ → Type 0
+FlowTyped p items w a names k f next =
+    GlobalsFit p items w.parts.spots → TypedCalls p items w → Typing k.next next (λ q. RetFits q w.ret a.gives → SeesTypes q names.locals k.names → FitsFlow p q f)
+
+-- under which the names behind have their types too
+abbrev pub DidTyped : Listing → List Item → Within → Around → Names → Known → Said → Did → Type 0
+DidTyped p items w a names k said d =
+    GlobalsFit p items w.parts.spots → TypedCalls p items w
+    → Typing k.next d.known.next (λ q. RetFits q w.ret a.gives → SeesTypes q names.locals k.names → FitsFlow p q d.flow × SeesTypes q (names.locals ++ said.declared) d.known.names)
+
+pub record Done (p : Listing) (t : Thread) (items : List Item) (w : Within) (a : Around) (names : Names) (k : Known) (said : Said) (d : Did) : Type 0 where
+  pub flow : FlowAt p t a.outermost d.flow
+  pub starts : a.outermost ≡ false → d.known.seen.starts ≡ k.seen.starts
+  pub sees : Sees (names.locals ++ said.declared) d.known.names
   pub thread : AreLocals t d.known.names
+  pub typed : DidTyped p items w a names k said d
 
 -- a statement is accepted, its numbers are ints, its declarations stand where the grammar has them and there is room
 pub record Accepted (p : Listing) (t : Thread) (items : List Item) (s : Placed) (d : Doing) (zs : List ℤ) (is_scoped : Bool) (a : Around) (names : Names) (w : Within) (k : Known) : Type 0 where
@@ -60,7 +92,7 @@ pub record Accepted (p : Listing) (t : Thread) (items : List Item) (s : Placed) 
   pub room : HasRoom p t a.outermost (d w k).known
 
 abbrev pub Does : Listing → Thread → List Item → Placed → Doing → List ℤ → Bool → Type 0
-Does p t items s d zs b = (a : Around) (names : Names) (w : Within) (k : Known) → Accepted p t items s d zs b a names w k → Done p t a.outermost names.locals k (s a names) (d w k)
+Does p t items s d zs b = (a : Around) (names : Names) (w : Within) (k : Known) → Accepted p t items s d zs b a names w k → Done p t items w a names k (s a names) (d w k)
 
 -- what is said of a statement and what is done by it
 pub record Agrees (p : Listing) (t : Thread) (items : List Item) (s : Placed) (d : Doing) (zs : List ℤ) (shape : Shape) : Type 0 where
@@ -167,7 +199,33 @@ room_inside p t b k j n m h = record { next = omega (arith, n, h.next); asserts 
 
 -- ---- what changes no names
 
-pub kept : (p : Listing) (t : Thread) (items : List Item) (b : Bool) (spots : List Spot) (names : Names) (k : Known) (ns : List Note) (f : Flow) (next asserts : ℕ)
-    → Reads p t items spots k.names names → FlowAt p t b f
-    → Done p t b names.locals k (noting ns) (record { flow = f; known = record { names = k.names; next = next; seen = record { asserts = asserts; starts = k.seen.starts } } })
-kept p t items b spots names k ns f next asserts r h = record { flow = h; starts = λ e. refl; sees = sees_nil names.locals k.names r.sees; thread = r.locals }
+-- with the names as they were
+pub names_kept : (p : Listing) (items : List Item) (w : Within) (a : Around) (names : Names) (k : Known) (f : Flow) (next : ℕ) (declared : List NamedAs) → declared ≡ [] → FlowTyped p items w a names k f next
+    → GlobalsFit p items w.parts.spots → TypedCalls p items w → Typing k.next next (λ q. RetFits q w.ret a.gives → SeesTypes q names.locals k.names → FitsFlow p q f × SeesTypes q (names.locals ++ declared) k.names)
+names_kept p items w a names k f next declared e h g c =
+    over k.next next (λ q. RetFits q w.ret a.gives → SeesTypes q names.locals k.names → FitsFlow p q f) _
+    (λ q r ret sees. (r ret sees, subst (λ (ds : List NamedAs). SeesTypes q (names.locals ++ ds) k.names) (sym e) (types_nil q names.locals k.names sees))) (h g c)
+
+pub kept : (p : Listing) (t : Thread) (items : List Item) (w : Within) (a : Around) (names : Names) (k : Known) (ns : List Note) (f : Flow) (next asserts : ℕ)
+    → Reads p t items w.parts.spots k.names names → FlowAt p t a.outermost f → FlowTyped p items w a names k f next
+    → Done p t items w a names k (noting ns) (record { flow = f; known = record { names = k.names; next = next; seen = record { asserts = asserts; starts = k.seen.starts } } })
+kept p t items w a names k ns f next asserts r h typed = record {
+  flow = h;
+  starts = λ e. refl;
+  sees = sees_nil names.locals k.names r.sees;
+  thread = r.locals;
+  typed = names_kept p items w a names k f next [] refl typed;
+}
+
+-- no fresh local
+pub no_locals : (p : Listing) (items : List Item) (w : Within) (a : Around) (names : Names) (k : Known) (f : Flow) → ((q : ℕ → Bool) → FitsFlow p q f) → FlowTyped p items w a names k f k.next
+no_locals p items w a names k f h g c = still k.next _ (λ q ret sees. h q)
+
+-- a test has a type
+pub test_typed : (p : Listing) (t : Thread) (items : List Item) (w : Within) (ns : List Named) (names : Names) (e : Expr) (n : ℕ) → Reads p t items w.parts.spots ns names → NoFault (judged_expr names e).notes → GlobalsFit p items w.parts.spots
+    → Typing n (reads w ns e n).next (λ q. SeesTypes q names.locals ns → FitsFlow p q (reads w ns e n).flow × FitsTest p q (reads w ns e n).pure)
+test_typed p t items w ns names e n r f g =
+    let o : Operand = (judged_expr names e).operand in
+    let v : Val = reads w ns e n in
+    over n v.next (λ q. SeesTypes q names.locals ns → FitsVal p q o v) _ (λ q h seen. let z = h seen in (z.flow, (typed_of (kinds_of q v.pure) o.kind o.zero z.kind, z.tidy)))
+    (expr_typed p items names e (scope w ns) n g r.globals f)

@@ -43,10 +43,10 @@ global_names table = record { globals = table; locals = [] }
 pub no_thread : Thread
 no_thread = record { locals = 0; code = []; places = [] }
 
-judged_is : (names : Names) (e : Expr) → judged_expr names e ≡ judged_node_step names (map-Node Node Expr (At → Judged) Judged (judged_node names) (judged_expr names) (node_of e)) (place_of e)
+pub judged_is : (names : Names) (e : Expr) → judged_expr names e ≡ judged_node_step names (map-Node Node Expr (At → Judged) Judged (judged_node names) (judged_expr names) (node_of e)) (place_of e)
 judged_is names e = search (rules, expr_lemmas)
 
-numbers_are : (e : Expr) → numbers_of e ≡ node_numbers (map-Node Node Expr (List ℤ) (List ℤ) node_ints numbers_of (node_of e))
+pub numbers_are : (e : Expr) → numbers_of e ≡ node_numbers (map-Node Node Expr (List ℤ) (List ℤ) node_ints numbers_of (node_of e))
 unfolding numbers_of
 numbers_are e = search (rules, expr_lemmas)
 

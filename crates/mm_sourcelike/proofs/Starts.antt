@@ -19,7 +19,7 @@ use Rattle.mm_tree.specs.declared.item.Item.TheVariants as item
 use Rattle.mm_tree.specs.declared.stmt.Stmt.{Stmt, roll-Stmt}
 use Rattle.mm_tree.specs.declared.stmt.StmtNode.{StmtNode, roll-StmtNode}
 use Rattle.mm_tree.specs.declared.stmt.StmtNode.TheOpen as stmt
-use Rattle.mm_tree.specs.declared.stmt.StmtNode.TheOpen.{StmtNode-F, Stmt-F}
+use Rattle.mm_tree.specs.declared.stmt.StmtNode.TheOpen.{StmtNode-F}
 use Rattle.mm_tree.specs.declared.stmt.StmtNode.TheFolds.{ind-Stmt, fold-StmtNode, fold-roll-StmtNode, fold-roll-Stmt, map-StmtNode}
 use Rattle.mm_flow.specs.declared.mentions.Mention.{Mention}
 use Rattle.mm_flow.specs.declared.mentions.Mention.TheVariants.{Create, Label}

@@ -83,7 +83,7 @@ module _ (p : Listing) (t : Thread) (items : List Item) (labels : Table) where
   parts_done [] = none_done p t items
   parts_done (s ∷ ss) =
       more_done p t items (said_stmt items labels s.0) (stmt_code s.0) (of_stmt s.0) (shape_of s.0).is_scoped (map (said_stmt items labels) (stmts_in ss)) (map stmt_code (stmts_in ss)) (of_parts (map of_stmt (stmts_in ss))) (are_scoped (map shape_of (stmts_in ss)))
-      s.1.does (in_order_long (map stmt_code (stmts_in ss)) (parts_long ss)) (parts_done ss)
+      s.1.does (stmt_long s.0) (in_order_long (map stmt_code (stmts_in ss)) (parts_long ss)) (parts_done ss)
 
   abbrev Layer : Type 0
   Layer = StmtNode-F ((d : StmtNode) × P d) Proved
@@ -119,15 +119,15 @@ module _ (p : Listing) (t : Thread) (items : List Item) (labels : Table) where
   layer_agrees (stmt.While c d) at = while_agrees p t items at c (said d) (code d) (ints d) (shape d) d.1 (stmt_long d.0)
   layer_agrees (stmt.DoWhile d c) at = do_agrees p t items at c (said d) (code d) (ints d) (shape d) d.1 (stmt_long d.0)
   layer_agrees (stmt.For None c None d) at =
-      for_agrees p t items at None None [] plain c None None [] plain (said d) (code d) (ints d) (shape d) (none_agrees p t items) (none_agrees p t items) (optional_long None tt) d.1 (stmt_long d.0)
+      for_agrees p t items at None None [] plain c None None [] plain (said d) (code d) (ints d) (shape d) (none_agrees p t items) (optional_long None tt) (none_agrees p t items) (optional_long None tt) d.1 (stmt_long d.0)
   layer_agrees (stmt.For None c (Some j) d) at =
-      for_agrees p t items at None None [] plain c (some_said j) (Some (code j)) (ints j) (shape j) (said d) (code d) (ints d) (shape d) (none_agrees p t items) j.1 (optional_long (Some (code j)) (stmt_long j.0)) d.1 (stmt_long d.0)
+      for_agrees p t items at None None [] plain c (some_said j) (Some (code j)) (ints j) (shape j) (said d) (code d) (ints d) (shape d) (none_agrees p t items) (optional_long None tt) j.1 (optional_long (Some (code j)) (stmt_long j.0)) d.1 (stmt_long d.0)
   layer_agrees (stmt.For (Some i) c None d) at =
-      for_agrees p t items at (some_said i) (Some (code i)) (ints i) (shape i) c None None [] plain (said d) (code d) (ints d) (shape d) i.1 (none_agrees p t items) (optional_long None tt) d.1 (stmt_long d.0)
+      for_agrees p t items at (some_said i) (Some (code i)) (ints i) (shape i) c None None [] plain (said d) (code d) (ints d) (shape d) i.1 (optional_long (Some (code i)) (stmt_long i.0)) (none_agrees p t items) (optional_long None tt) d.1 (stmt_long d.0)
   layer_agrees (stmt.For (Some i) c (Some j) d) at =
-      for_agrees p t items at (some_said i) (Some (code i)) (ints i) (shape i) c (some_said j) (Some (code j)) (ints j) (shape j) (said d) (code d) (ints d) (shape d) i.1 j.1 (optional_long (Some (code j)) (stmt_long j.0)) d.1 (stmt_long d.0)
-  layer_agrees stmt.Break at = just_agrees p t items (λ a. refusal_unless a.looped at) (Leave at Behind) (λ b. tt)
-  layer_agrees stmt.Continue at = just_agrees p t items (λ a. refusal_unless a.looped at) (Leave at Next) (λ b. tt)
+      for_agrees p t items at (some_said i) (Some (code i)) (ints i) (shape i) c (some_said j) (Some (code j)) (ints j) (shape j) (said d) (code d) (ints d) (shape d) i.1 (optional_long (Some (code i)) (stmt_long i.0)) j.1 (optional_long (Some (code j)) (stmt_long j.0)) d.1 (stmt_long d.0)
+  layer_agrees stmt.Break at = just_agrees p t items (λ a. refusal_unless a.looped at) (Leave at Behind) (λ b. tt) (λ q. tt)
+  layer_agrees stmt.Continue at = just_agrees p t items (λ a. refusal_unless a.looped at) (Leave at Next) (λ b. tt) (λ q. tt)
   layer_agrees (stmt.Return v) at = return_agrees p t items at v
   layer_agrees (stmt.Assert e text) at = assert_agrees p t items at e text
   layer_agrees (stmt.Assume e) at = assume_agrees p t items at e
@@ -138,8 +138,8 @@ module _ (p : Listing) (t : Thread) (items : List Item) (labels : Table) where
   layer_agrees (stmt.Join x) at = join_agrees p t items at x
   layer_agrees (stmt.Goto x) at = goto_agrees p t items at x labels
   layer_agrees (stmt.Label x d) at = label_agrees p t items x (said d) (code d) (ints d) (shape d) d.1
-  layer_agrees stmt.AtomBegin at = just_agrees p t items (λ a. output_only a.side at) (Do at instr.AtomBegin) (λ b. (tt, λ e. refl))
-  layer_agrees stmt.AtomEnd at = just_agrees p t items (λ a. output_only a.side at) (Do at instr.AtomEnd) (λ b. (tt, λ e. refl))
+  layer_agrees stmt.AtomBegin at = just_agrees p t items (λ a. output_only a.side at) (Do at instr.AtomBegin) (λ b. (tt, λ e. refl)) (λ q. tt)
+  layer_agrees stmt.AtomEnd at = just_agrees p t items (λ a. output_only a.side at) (Do at instr.AtomEnd) (λ b. (tt, λ e. refl)) (λ q. tt)
 
   pub stmt_agrees : (s : Stmt) → Q s
   stmt_agrees = ind-Stmt P Q
@@ -151,4 +151,4 @@ module _ (p : Listing) (t : Thread) (items : List Item) (labels : Table) where
   body_does [] = none_done p t items
   body_does (s ∷ ss) =
       more_done p t items (said_stmt items labels s) (stmt_code s) (of_stmt s) (shape_of s).is_scoped (map (said_stmt items labels) ss) (map stmt_code ss) (of_stmts ss) (body_scoped ss)
-      (stmt_agrees s).does (body_long ss) (body_does ss)
+      (stmt_agrees s).does (stmt_long s) (body_long ss) (body_does ss)

@@ -172,7 +172,7 @@ some_fails : {A : Type 0} (test : A → Bool) (pre : List A) (x : A) (post : Lis
 some_fails test [] x post h = short (test x) (1 + prefix_len test post) (length post) (λ e. true_is_not (sym e ∙ h))
 some_fails test (y ∷ pre) x post h = short (test y) (1 + prefix_len test (pre ++ x ∷ post)) (length (pre ++ x ∷ post)) (λ e. omega (arith, some_fails test pre x post h))
 
-less : (m n : ℕ) → m < n → nat_lt m n ≡ true
+pub less : (m n : ℕ) → m < n → nat_lt m n ≡ true
 less m n h = grind (arith, nat_tests)
 
 pub mutex_here : (pre : List Ident) (x : Ident) (post : List Ident) → HasMutex (pre ++ x ∷ post) x

@@ -110,6 +110,7 @@ module _ (p : Listing) (items : List Item) (parts : Parts) (text : AcceptedText 
     pub function : Function
     pub is : function_of items parts.asserts f ≡ Some function
     pub body : AcceptedBody p items parts outermost (λ n. []) function.body
+    pub untyped : body.typed_params ≡ []
     pub asserts : function.asserts + asserts_in function.body < 2 ^ 32
     pub main : outermost ≡ true → creates_in function.body ≡ parts.starts
 

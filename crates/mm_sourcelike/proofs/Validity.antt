@@ -91,11 +91,11 @@ most_locals_fit : (side : Side) → most_locals side ≤ MAX_LOCALS
 most_locals_fit Source = omega arith
 most_locals_fit Output = omega arith
 
-first_false : (a b : Bool) → (a || b) ≡ false → a ≡ false
+pub first_false : (a b : Bool) → (a || b) ≡ false → a ≡ false
 first_false true b e = e
 first_false false b e = refl
 
-second_false : (a b : Bool) → (a || b) ≡ false → b ≡ false
+pub second_false : (a b : Bool) → (a || b) ≡ false → b ≡ false
 second_false true b e = true_is_not e
 second_false false b e = e
 
@@ -210,17 +210,17 @@ module _ (side : Side) (tree : Tree) (ints : AreInts tree) (scoped : IsScoped tr
   pub function_fine : (x : Ident) (k : ℕ) (h : HasFunction items x k) → FunctionFine side items p refl h.at h.gives x h.params h.body
   function_fine x k h = all_at_index (ItemFine side items p refl) items k (item.Function h.at h.gives x h.params h.body) fine.each h.is
 
-  functions : (x : Ident) (k : ℕ) (h : HasFunction items x k) (f : Function) → can_be_called x h.gives ≡ true → function_of items parts.asserts x ≡ Some f → AcceptedFunction p items parts f h.params
+  functions : (x : Ident) (k : ℕ) (h : HasFunction items x k) (f : Function) → can_be_called x h.gives ≡ true → function_of items parts.asserts x ≡ Some f → AcceptedFunction p items parts f h.params h.gives
   functions x k h f c e =
       let q = function_fine x k h in
       let same : record { params = h.params; body = h.body; asserts = q.before } ≡ f = same_some (record { params = h.params; body = h.body; asserts = q.before }) f (sym q.is ∙ e) in
-      subst (λ (g : Function). AcceptedFunction p items parts g h.params) same (record { count = refl; asserts = q.asserts; body = q.called c })
+      subst (λ (g : Function). AcceptedFunction p items parts g h.params h.gives) same (record { count = refl; params_are = refl; asserts = q.asserts; body = q.called c; gives_are = (q.called_is c).0; types_are = (q.called_is c).1 })
 
   pub threads_length : length p.threads ≡ 1 + length parts.starts
   threads_length = length-map (threads_in parts) (thread_of parts items) ∙ omega (arith, length-map parts.starts (λ (s : Started). s.function))
 
   pub text : AcceptedText p items parts
-  text = record { few = omega (arith, cells_few); rows = rows; mutexes = refl; starts = threads_length; functions = functions }
+  text = record { few = omega (arith, cells_few); rows = rows; mutexes = refl; starts = threads_length; functions = functions; found = λ x k h. let q = function_fine x k h in (record { params = h.params; body = h.body; asserts = q.before }, q.is) }
 
   main_here : IsMainAt items
   main_here = main_at items accepted.main
@@ -233,6 +233,7 @@ module _ (side : Side) (tree : Tree) (ints : AreInts tree) (scoped : IsScoped tr
         function = record { params = m.function.params; body = m.function.body; asserts = q.before };
         is = q.is;
         body = q.main m.main;
+        untyped = q.main_is m.main;
         asserts = q.asserts;
         main = λ e. sym (ap creates_in (same_body items 0 (codes "main") (record { params = m.function.params; body = m.function.body; asserts = q.before }) q.is));
       }
@@ -244,6 +245,7 @@ module _ (side : Side) (tree : Tree) (ints : AreInts tree) (scoped : IsScoped tr
         function = record { params = h.function.params; body = h.function.body; asserts = q.before };
         is = q.is;
         body = q.thread h.gives;
+        untyped = q.thread_is h.gives;
         asserts = q.asserts;
         main = λ e. true_is_not (sym e);
       }

@@ -32,13 +32,14 @@ use Rattle.mm_flow.specs.Expressions.{Scope, Vals, Aim, expr_value, values, the_
 use Rattle.mm_flow.specs.Scopes.{spot_of}
 use Rattle.mm_flow.specs.Statements.{Function, Within, scope, function_of, bound, sets, called, call_of, call_value, aim_of, aim_at, value_of, local_left, left_aim, assigned_to, assigned, updated_to, updated}
 use Rattle.mm_scope.specs.declared.expression.Sort.TheVariants as sort
+use Rattle.mm_scope.specs.declared.operand.Operand.{Operand}
 use Rattle.mm_scope.specs.declared.table.Meaning.{Meaning}
 use Rattle.mm_scope.specs.declared.table.Meaning.TheVariants as meaning
 use Rattle.mm_scope.specs.Expressions.{judged_expr, judged_node, judged_node_step, named as judged_name}
 use Rattle.mm_scope.specs.Notes.{Note}
-use Rattle.mm_scope.specs.Operands.{Judged}
+use Rattle.mm_scope.specs.Operands.{Judged, made}
 use Rattle.mm_scope.specs.Scopes.{Names, found, meaning_in, meaning_of}
-use Rattle.mm_scope.specs.Values.{judged_value, judged_left, judged_left_node, call, call_of as judged_call, numbered_call, call_fault, input_call, can_be_called, arguments, rest, judged_argument}
+use Rattle.mm_scope.specs.Values.{judged_value, judged_left, judged_left_node, call, call_of as judged_call, numbered_call, call_fault, input_call, can_be_called, arguments, are_known, rest, judged_argument, kind_given, kind_where}
 use Rattle.mm_sourcelike.specs.Ints.{numbers_of, node_numbers, all_numbers, of_value, of_left}
 use Rattle.mm_sourcelike.proofs.Evaluating.{all_left, all_right, FlowIn, ValIn, AimIn, node_ints, cell_in, indexed_in, followed_in, division_in, expr_fine}
 use Rattle.mm_sourcelike.proofs.Growth.{grows, values_grow}
@@ -64,12 +65,14 @@ pub record IsGood (p : Listing) (t : Thread) (items : List Item) (w : Within) : 
 
 -- ---- calls that are accepted
 
-record IsCall (items : List Item) (names : Names) (x : Ident) (es : List Expr) : Type 0 where
-  k : ℕ
-  function : HasFunction items x k
-  can : can_be_called x function.gives ≡ true
-  count : length es ≡ length function.params
-  args : NoFault (arguments names function.params es)
+-- a function of the text may be called with these arguments, and this is what the call is judged to be
+pub record IsCall (items : List Item) (names : Names) (x : Ident) (es : List Expr) (at : At) (o : Operand) : Type 0 where
+  pub k : ℕ
+  pub function : HasFunction items x k
+  pub can : can_be_called x function.gives ≡ true
+  pub count : length es ≡ length function.params
+  pub args : NoFault (arguments names function.params es)
+  pub operand : o ≡ made at (kind_where (are_known names function.params es) (kind_given function.gives))
 
 pub test_first : (a b : Bool) → (a && b) ≡ true → a ≡ true
 test_first true b e = refl
@@ -82,19 +85,19 @@ test_second false b e = absurd (false_is_not e)
     false_is_not : false ≡ true → ⊥
     false_is_not q = cc
 
-same_count : (m n : ℕ) → nat_eq m n ≡ true → m ≡ n
+pub same_count : (m n : ℕ) → nat_eq m n ≡ true → m ≡ n
 same_count m n e = grind (arith, nat_tests)
 
-fault_of_call : (at : At) (b : Bool) (ns : List Note) → NoFault (call_fault at b ++ ns) → (b ≡ true) × NoFault ns
+pub fault_of_call : (at : At) (b : Bool) (ns : List Note) → NoFault (call_fault at b ++ ns) → (b ≡ true) × NoFault ns
 fault_of_call at true ns h = (refl, h)
 fault_of_call at false ns h = absurd h
 
 module _ (items : List Item) (names : Names) (caller : ℕ) (at : At) (x : Ident) (es : List Expr) where
-  numbered : (k : ℕ) (h : HasFunction items x k) → NoFault (numbered_call names caller k at es (slice_get items k)).notes → IsCall items names x es
+  numbered : (k : ℕ) (h : HasFunction items x k) → NoFault (numbered_call names caller k at es (slice_get items k)).notes → IsCall items names x es at (numbered_call names caller k at es (slice_get items k)).operand
   numbered k h f =
       let g : NoFault (numbered_call names caller k at es (Some (item.Function h.at h.gives x h.params h.body))).notes = subst (λ o. NoFault (numbered_call names caller k at es o).notes) h.is f in
       let r = fault_of_call at (can_be_called x h.gives && nat_eq (length es) (length h.params)) (arguments names h.params es) g in
-      record { k = k; function = h; can = test_first (can_be_called x h.gives) (nat_eq (length es) (length h.params)) r.0; count = same_count (length es) (length h.params) (test_second (can_be_called x h.gives) (nat_eq (length es) (length h.params)) r.0); args = r.1 }
+      record { k = k; function = h; can = test_first (can_be_called x h.gives) (nat_eq (length es) (length h.params)) r.0; count = same_count (length es) (length h.params) (test_second (can_be_called x h.gives) (nat_eq (length es) (length h.params)) r.0); args = r.1; operand = ap (λ o. (numbered_call names caller k at es o).operand) h.is }
 
   of_local : (named : List Named) (m : Meaning) → Stands named x m → NoFault (judged_call items names caller at es (Some m)).notes → ⊥
   of_local named meaning.Int s f = f
@@ -111,7 +114,7 @@ module _ (items : List Item) (names : Names) (caller : ℕ) (at : At) (x : Ident
   of_local named meaning.Input s f = s
   of_local named meaning.Label s f = s
 
-  of_global : (spots : List Spot) (mutexes : List Ident) (m : Meaning) → starts_with nat_eq x (codes "nondet_") ≡ false → Means spots mutexes items x m → NoFault (judged_call items names caller at es (Some m)).notes → IsCall items names x es
+  of_global : (spots : List Spot) (mutexes : List Ident) (m : Meaning) → starts_with nat_eq x (codes "nondet_") ≡ false → Means spots mutexes items x m → NoFault (judged_call items names caller at es (Some m)).notes → IsCall items names x es at (judged_call items names caller at es (Some m)).operand
   of_global spots mutexes (meaning.Function k) e s f = numbered k s f
   of_global spots mutexes (meaning.Ahead k) e s f = numbered k s f
   of_global spots mutexes meaning.Input e s f = absurd (apart (sym e ∙ s))
@@ -129,10 +132,10 @@ module _ (items : List Item) (names : Names) (caller : ℕ) (at : At) (x : Ident
   of_global spots mutexes meaning.Unready e s f = absurd s
   of_global spots mutexes meaning.Label e s f = absurd s
 
-  is_call : (p : Listing) (t : Thread) (spots : List Spot) (named : List Named) → Reads p t items spots named names → starts_with nat_eq x (codes "nondet_") ≡ false → NoFault (judged_call items names caller at es (meaning_of names x)).notes → IsCall items names x es
+  pub is_call : (p : Listing) (t : Thread) (spots : List Spot) (named : List Named) → Reads p t items spots named names → starts_with nat_eq x (codes "nondet_") ≡ false → NoFault (judged_call items names caller at es (meaning_of names x)).notes → IsCall items names x es at (judged_call items names caller at es (meaning_of names x)).operand
   is_call p t spots named r e f = by (found names.locals x) (meaning_in names.globals x) (r.sees.each x) (r.globals.each x) f
     where
-      by : (a b : Option Meaning) → ((m : Meaning) → a ≡ Some m → Stands named x m) → ((m : Meaning) → b ≡ Some m → Means spots p.mutexes items x m) → NoFault (judged_call items names caller at es (option_or a b)).notes → IsCall items names x es
+      by : (a b : Option Meaning) → ((m : Meaning) → a ≡ Some m → Stands named x m) → ((m : Meaning) → b ≡ Some m → Means spots p.mutexes items x m) → NoFault (judged_call items names caller at es (option_or a b)).notes → IsCall items names x es at (judged_call items names caller at es (option_or a b)).operand
       by (Some m) b s g h = absurd (of_local named m (s m refl) h)
       by None (Some m) s g h = of_global spots p.mutexes m e (g m refl) h
       by None None s g h = absurd h
@@ -222,7 +225,7 @@ sets_in p t at [] n l h = tt
 sets_in p t at (e ∷ es) n l h = (((omega arith, h.0), refl), sets_in p t at es (n + 1) (omega arith) h.1)
 
 module _ (p : Listing) (t : Thread) (items : List Item) (names : Names) (w : Within) (named : List Named) (g : IsGood p t items w) (r : Reads p t items w.parts.spots named names) where
-  called_in : (at : At) (x : Ident) (es : List Expr) (n : ℕ) (f : Function) → function_of w.items w.parts.asserts x ≡ Some f → IsCall items names x es → AllByRecursion IsInt (all_numbers es) → (called w at es named n f).next ≤ t.locals → ValIn p t (called w at es named n f)
+  called_in : (at : At) (x : Ident) (es : List Expr) (n : ℕ) (f : Function) {o : Operand} → function_of w.items w.parts.asserts x ≡ Some f → IsCall items names x es at o → AllByRecursion IsInt (all_numbers es) → (called w at es named n f).next ≤ t.locals → ValIn p t (called w at es named n f)
   called_in at x es n f is c i l =
       let ret : ℕ = n + length f.params in
       let args : Vals = values (scope w named) es (ret + 1) in

@@ -45,10 +45,13 @@ use Rattle.mm_sourcelike.proofs.Evaluating.{all_left, all_right}
 use Rattle.mm_sourcelike.proofs.Inlining.{AcceptedBody}
 use Rattle.mm_sourcelike.proofs.Leaves.{declared_is}
 use Rattle.mm_sourcelike.proofs.Noting.{function_uses, other_idle}
-use Rattle.mm_sourcelike.proofs.Scoping.{NoFault, fault_left, fault_right, HasMutex, HasFunction, Means, Stands, Sees, IsSound, none_is_not}
+use Rattle.mm_sourcelike.proofs.Scoping.{NoFault, fault_left, fault_right, HasMutex, IsGlobalOf, HasFunction, Means, Stands, Sees, IsSound, none_is_not}
 use Rattle.mm_sourcelike.proofs.Standing.{sees_nil, sees_thread, sees_local, stands_for}
 use Rattle.mm_sourcelike.proofs.Starting.{global_names, no_thread, start_fine}
 use Rattle.mm_sourcelike.proofs.Tables.{Behind, itself, same_names, sound_with, IsListed, GlobalListed, is_new, behind_with, now, differs, spot_here, mutex_here, true_is_not, all_weaker}
+use Rattle.mm_sourcelike.proofs.TypedNames.{GlobalsFit, SeesTypes, StandsAs, stands_as, types_local, types_nil, types_thread}
+use Rattle.mm_sourcelike.proofs.TypedStarts.{StartTyped, Starts, start_typed}
+use Rattle.mm_sourcelike.proofs.TypedValues.{ParamsTyped}
 use Rattle.mm_sourcelike.proofs.Using.{uses, uses_append}
 use Rattle.mm_sourcelike.proofs.Valuing.{test_first, test_second}
 
@@ -80,6 +83,39 @@ module _ (p : Listing) (items : List Item) where
       subst (λ (ls : List NamedAs). Sees ls (ns ++ (named q.name.name n ∷ bound ps (n + 1)))) (append_assoc names.locals said.declared (in_turn (declared_param a) ps before).declared)
       (subst (λ (ms : List Named). Sees (before.locals ++ (in_turn (declared_param a) ps before).declared) ms) (append_assoc ns (named q.name.name n ∷ []) (bound ps (n + 1))) two)
 
+  -- and for locals of their types
+  params_types : (t : ℕ → Bool) (a : Around) → ((b : Bool) → meaning_of_param a.gives b ≡ meaning_of_local b) → (ps : List Param) (names : Names) (ns : List Named) (n : ℕ) → ParamsTyped t ps n → SeesTypes t names.locals ns → NoFault (in_turn (declared_param a) ps names).notes
+      → SeesTypes t (names.locals ++ (in_turn (declared_param a) ps names).declared) (ns ++ bound ps n)
+  unfolding in_turn and_then skip declared_param declaring
+  params_types t a g [] names ns n h s f = subst (λ (ms : List Named). SeesTypes t (names.locals ++ []) ms) (sym (append-nil ns)) (types_nil t names.locals ns s)
+  params_types t a g (q ∷ ps) names ns n h s f =
+      let names1 : Names = record names { locals = names.locals ++ [] } in
+      let m : Meaning = meaning_of_param a.gives q.pointer in
+      let said : Said = declared_param a q names in
+      let e : said.declared ≡ named_as q.name.name m ∷ [] = declared_is p no_thread items (is_taken names1 a.from q.name.name) q.name.at q.name.name m names1 (fault_right (reserved a.side q.name.at q.name.name) _ (fault_left said.notes _ f)) in
+      let one : SeesTypes t (names.locals ++ said.declared) (ns ++ named q.name.name n ∷ []) =
+      subst (λ (ds : List NamedAs). SeesTypes t (names.locals ++ ds) (ns ++ named q.name.name n ∷ [])) (sym e)
+      (types_local t names.locals ns q.name.name n m (λ y i. subst (StandsAs t (ns ++ named q.name.name n ∷ []) y) (sym (g q.pointer)) (stands_as t ns q.name.name n q.pointer y h.0 i)) s) in
+      let before : Names = behind (declared_param a q) names in
+      let two = params_types t a g ps before (ns ++ named q.name.name n ∷ []) (n + 1) h.1 one (fault_right said.notes _ f) in
+      subst (λ (ls : List NamedAs). SeesTypes t ls (ns ++ (named q.name.name n ∷ bound ps (n + 1)))) (append_assoc names.locals said.declared (in_turn (declared_param a) ps before).declared)
+      (subst (λ (ms : List Named). SeesTypes t (before.locals ++ (in_turn (declared_param a) ps before).declared) ms) (append_assoc ns (named q.name.name n ∷ []) (bound ps (n + 1))) two)
+
+  handed_types : (t : ℕ → Bool) (a : Around) → ((b : Bool) → meaning_of_param a.gives b ≡ meaning.Handed) → (ps : List Param) (names : Names) (ns : List Named) → SeesTypes t names.locals ns → NoFault (in_turn (declared_param a) ps names).notes
+      → SeesTypes t (names.locals ++ (in_turn (declared_param a) ps names).declared) ns
+  unfolding in_turn and_then skip declared_param declaring
+  handed_types t a g [] names ns s f = types_nil t names.locals ns s
+  handed_types t a g (q ∷ ps) names ns s f =
+      let names1 : Names = record names { locals = names.locals ++ [] } in
+      let m : Meaning = meaning_of_param a.gives q.pointer in
+      let said : Said = declared_param a q names in
+      let e : said.declared ≡ named_as q.name.name m ∷ [] = declared_is p no_thread items (is_taken names1 a.from q.name.name) q.name.at q.name.name m names1 (fault_right (reserved a.side q.name.at q.name.name) _ (fault_left said.notes _ f)) in
+      let h : said.declared ≡ named_as q.name.name meaning.Handed ∷ [] = e ∙ ap (λ (r : Meaning). named_as q.name.name r ∷ []) (g q.pointer) in
+      let one : SeesTypes t (names.locals ++ said.declared) ns = subst (λ (ds : List NamedAs). SeesTypes t (names.locals ++ ds) ns) (sym h) (types_thread t names.locals ns q.name.name meaning.Handed (λ ms y. tt) s) in
+      let before : Names = behind (declared_param a q) names in
+      let two = handed_types t a g ps before ns one (fault_right said.notes _ f) in
+      subst (λ (ls : List NamedAs). SeesTypes t ls ns) (append_assoc names.locals said.declared (in_turn (declared_param a) ps before).declared) two
+
   -- that of a thread's function stands for nothing
   handed_see : (a : Around) → ((b : Bool) → meaning_of_param a.gives b ≡ meaning.Handed) → (ps : List Param) (names : Names) (ns : List Named) → Sees names.locals ns → NoFault (in_turn (declared_param a) ps names).notes
       → Sees (names.locals ++ (in_turn (declared_param a) ps names).declared) ns
@@ -109,6 +145,7 @@ module _ (side : Side) (items : List Item) (p : Listing) (same : p.mutexes ≡ m
   pub record GlobalsFine (gs : List Global) : Type 0 where
     pub cells : EachHasCells gs
     pub starts : length p.cells < 2 ^ 31 → AllByRecursion (λ s. IsRow p.cells (row_of s)) parts.spots → EachStarts parts.spots p.cells gs
+    pub typed : GlobalsFit p items parts.spots → AllByRecursion (Starts parts.spots (λ g e. StartTyped p g.pointer e)) gs
 
   pub record FunctionFine (at : At) (g : Gives) (x : Ident) (ps : List Param) (ss : List Stmt) : Type 0 where
     pub before : ℕ
@@ -117,6 +154,9 @@ module _ (side : Side) (items : List Item) (p : Listing) (same : p.mutexes ≡ m
     pub called : can_be_called x g ≡ true → AcceptedBody p items parts false (bound ps) ss
     pub thread : g ≡ gives.Thread → AcceptedBody p items parts false (λ n. []) ss
     pub main : is_main (item.Function at g x ps ss) ≡ true → AcceptedBody p items parts true (λ n. []) ss
+    pub called_is : (c : can_be_called x g ≡ true) → ((called c).around.gives ≡ g) × ((called c).typed_params ≡ ps)
+    pub thread_is : (h : g ≡ gives.Thread) → (thread h).typed_params ≡ []
+    pub main_is : (h : is_main (item.Function at g x ps ss) ≡ true) → (main h).typed_params ≡ []
 
   abbrev pub ItemFine : Item → Type 0
   ItemFine (item.Globals gs) = Unit {0}
@@ -132,10 +172,22 @@ module _ (side : Side) (items : List Item) (p : Listing) (same : p.mutexes ≡ m
   global_declared false None = refl
   global_declared b (Some n) = refl
 
-  means_global : (g : Global) (b : Bool) (len : Option ℤ) (s : Spot) → spot_of parts.spots g.name ≡ Some s → s.len ≡ length_of len → Means parts.spots p.mutexes items g.name (meaning_of_global b len)
-  means_global g true None s e l = record { spot = s; is = e }
-  means_global g false None s e l = record { spot = s; is = e }
-  means_global g b (Some n) s e l = record { spot = s; is = e; len = l }
+  global_here : (gs : List Global) (g : Global) (after : List Global) → globals_in items ≡ gs ++ (g ∷ after) → IsGlobalOf items g.name g.pointer g.len
+  global_here gs g after e =
+      let i : length gs ≡ length gs + 0 = omega arith in
+      record {
+        place = length gs;
+        global = g;
+        is = ap (λ (hs : List Global). slice_get hs (length gs)) e ∙ (ap (slice_get (gs ++ (g ∷ after))) i ∙ at_right gs (g ∷ after) 0);
+        name = refl;
+        pointer_is = refl;
+        len_is = refl;
+      }
+
+  means_global : (g : Global) (b : Bool) (len : Option ℤ) (s : Spot) → spot_of parts.spots g.name ≡ Some s → s.len ≡ length_of len → IsGlobalOf items g.name b len → Means parts.spots p.mutexes items g.name (meaning_of_global b len)
+  means_global g true None s e l h = record { spot = s; is = e; global = h }
+  means_global g false None s e l h = record { spot = s; is = e; global = h }
+  means_global g b (Some n) s e l h = record { spot = s; is = e; len = l; pointer = b; global = h }
 
   not_refused : (b : Bool) (at : At) (ns : List Note) → NoFault (refused_if b at ++ ns) → b ≡ false
   not_refused true at ns h = absurd h
@@ -164,9 +216,17 @@ module _ (side : Side) (items : List Item) (p : Listing) (same : p.mutexes ≡ m
         starts_fine pointer es table s (all_right IsInt (numbers_of e) (all_numbers es) i) (fault_right one _ f) few rows,
       )
 
+  starts_typed : (pointer : Bool) (es : List Expr) (table : Table) → IsSound parts.spots p.mutexes items table → NoFault (tops (listed_start pointer) es (global_names table)).notes → GlobalsFit p items parts.spots → AllByRecursion (λ e. StartTyped p pointer (start_value parts.spots e)) es
+  unfolding tops top_then listed_start top_notes
+  starts_typed pointer [] table s f fit = tt
+  starts_typed pointer (e ∷ es) table s f fit =
+      let one = start_notes pointer e (global_names table) in
+      (start_typed p items parts.spots fit table s pointer e (fault_left one _ f), starts_typed pointer es table s (fault_right one _ f) fit)
+
   record GlobalDone (done : List Item) (gs : List Global) (g : Global) (table : Table) : Type 0 where
     cells : 1 ≤ cells_in g
     starts : length p.cells < 2 ^ 31 → AllByRecursion (λ s. IsRow p.cells (row_of s)) parts.spots → AllByRecursion (λ e. StartsIn p.cells (start_value parts.spots e)) g.init
+    typed : GlobalsFit p items parts.spots → Starts parts.spots (λ h e. StartTyped p h.pointer e) g
     behind : At_ done (gs ++ g ∷ []) (listed_global side g (global_names table)).globals
 
   global_done : (done : List Item) (gs : List Global) (g : Global) (after : List Global) (table : Table) → globals_in items ≡ gs ++ (g ∷ after) → At_ done gs table → AllByRecursion IsInt (all_numbers g.init) → NoFault (listed_global side g (global_names table)).notes → GlobalDone done gs g table
@@ -181,12 +241,13 @@ module _ (side : Side) (items : List Item) (p : Listing) (same : p.mutexes ≡ m
       let spot = spot_here gs g after 0 others in
       let is : spot_of parts.spots g.name ≡ Some spot.0 = ap (λ (hs : List Global). spot_of (spots hs 0) g.name) e ∙ spot.1 in
       let table1 : Table = with_name table g.name m in
-      let b1 = behind_with parts.spots p.mutexes items done gs table g.name m (global_declared g.pointer g.len) (means_global g g.pointer g.len spot.0 is spot.2) b in
+      let b1 = behind_with parts.spots p.mutexes items done gs table g.name m (global_declared g.pointer g.len) (means_global g g.pointer g.len spot.0 is spot.2 (global_here gs g after e)) b in
       let rest : List Note = noted_length g (global_names here.globals) in
       let behind_name = fault_right first _ f in
       record {
         cells = has_cells g.at g.init g.len (fault_left rest _ behind_name);
         starts = starts_fine g.pointer g.init table1 b1.sound i (subst (λ (q : Table). NoFault (tops (listed_start g.pointer) g.init (global_names q)).notes) new.globals (fault_right rest _ behind_name));
+        typed = starts_typed g.pointer g.init table1 b1.sound (subst (λ (q : Table). NoFault (tops (listed_start g.pointer) g.init (global_names q)).notes) new.globals (fault_right rest _ behind_name));
         behind = subst (λ (q : Table). At_ done (gs ++ g ∷ []) q) (sym (starts_keep g.pointer g.init here.globals ∙ new.globals)) (record {
           sound = b1.sound;
           globals = both_all (GlobalListed table1) gs (g ∷ []) b1.globals (now table g.name m (global_declared g.pointer g.len), tt);
@@ -201,7 +262,7 @@ module _ (side : Side) (items : List Item) (p : Listing) (same : p.mutexes ≡ m
   globals_done : (done : List Item) (acc gs after : List Global) (table : Table) → globals_in items ≡ acc ++ (gs ++ after) → At_ done acc table → AllByRecursion IsInt (of_globals gs) → NoFault (tops (listed_global side) gs (global_names table)).notes
       → GlobalsDone done (acc ++ gs) gs (tops (listed_global side) gs (global_names table)).globals
   unfolding tops no_more top_then
-  globals_done done acc [] after table e b i f = record { fine = record { cells = tt; starts = λ few rows. tt }; behind = subst (λ (gs : List Global). At_ done gs table) (sym (append-nil acc)) b }
+  globals_done done acc [] after table e b i f = record { fine = record { cells = tt; starts = λ few rows. tt; typed = λ fit. tt }; behind = subst (λ (gs : List Global). At_ done gs table) (sym (append-nil acc)) b }
   globals_done done acc (g ∷ gs) after table e b i f =
       let notes : List Note = (listed_global side g (global_names table)).notes in
       let table1 : Table = (listed_global side g (global_names table)).globals in
@@ -209,7 +270,7 @@ module _ (side : Side) (items : List Item) (p : Listing) (same : p.mutexes ≡ m
       let e1 : globals_in items ≡ (acc ++ g ∷ []) ++ (gs ++ after) = e ∙ sym (append_assoc acc (g ∷ []) (gs ++ after)) in
       let two = globals_done done (acc ++ g ∷ []) gs after table1 e1 one.behind (all_right IsInt (all_numbers g.init) (of_globals gs) i) (fault_right notes _ f) in
       record {
-        fine = record { cells = (one.cells, two.fine.cells); starts = λ few rows. (one.starts few rows, two.fine.starts few rows) };
+        fine = record { cells = (one.cells, two.fine.cells); starts = λ few rows. (one.starts few rows, two.fine.starts few rows); typed = λ fit. (one.typed fit, two.fine.typed fit) };
         behind = subst (λ (hs : List Global). At_ done hs (tops (listed_global side) gs (global_names table1)).globals) (append_assoc acc (g ∷ []) gs) two.behind;
       }
 
@@ -310,6 +371,17 @@ module _ (side : Side) (items : List Item) (p : Listing) (same : p.mutexes ≡ m
   main_see a at gives.Nothing x ps ss table e = true_is_not (sym e)
   main_see a at gives.Thread x ps ss table e = true_is_not (sym e)
 
+  nothing_typed : (t : ℕ → Bool) → SeesTypes t [] []
+  nothing_typed t = record { each = λ x m e. absurd (none_is_not m e); known = λ x l e. absurd (none_is_not l e) }
+
+  main_types : (t : ℕ → Bool) (a : Around) (at : At) (g : Gives) (x : Ident) (ps : List Param) (ss : List Stmt) (table : Table) → is_main (item.Function at g x ps ss) ≡ true → SeesTypes t ([] ++ (in_turn (declared_param a) ps (global_names table)).declared) []
+  unfolding in_turn skip
+  main_types t a at gives.Int x [] ss table e = nothing_typed t
+  main_types t a at gives.Int x (q ∷ ps) ss table e = true_is_not (sym e)
+  main_types t a at gives.Pointer x ps ss table e = true_is_not (sym e)
+  main_types t a at gives.Nothing x ps ss table e = true_is_not (sym e)
+  main_types t a at gives.Thread x ps ss table e = true_is_not (sym e)
+
   -- main's body, and what is noted of threads in it
   pub record MainBody (ss : List Stmt) (us : List Use) : Type 0 where
     pub body : AcceptedBody p items parts true (λ n. []) ss
@@ -371,8 +443,8 @@ module _ (side : Side) (items : List Item) (p : Listing) (same : p.mutexes ≡ m
       let params : Said = in_turn (declared_param a) ps names in
       let param_notes = fault_left params.notes _ body in
       let sound : IsSound parts.spots p.mutexes items here.globals = subst (IsSound parts.spots p.mutexes items) back b1.sound in
-      let accepted : (outermost : Bool) (named_at : ℕ → List Named) → is_main it ≡ outermost → ((n : ℕ) → Sees ([] ++ params.declared) (named_at n)) → AcceptedBody p items parts outermost named_at ss =
-      λ outermost named_at place sees. record {
+      let accepted : (outermost : Bool) (named_at : ℕ → List Named) → is_main it ≡ outermost → ((n : ℕ) → Sees ([] ++ params.declared) (named_at n)) → (typed : List Param) → ((t : ℕ → Bool) (n : ℕ) → ParamsTyped t typed n → SeesTypes t ([] ++ params.declared) (named_at n)) → AcceptedBody p items parts outermost named_at ss =
+      λ outermost named_at place sees typed types. record {
         labels = labels;
         around = a;
         names = record { globals = here.globals; locals = [] ++ params.declared };
@@ -383,7 +455,17 @@ module _ (side : Side) (items : List Item) (p : Listing) (same : p.mutexes ≡ m
         fine = fault_right params.notes _ body;
         ints = i;
         scoped = scoped;
+        typed_params = typed;
+        types = types;
       } in
+      let called : can_be_called x g ≡ true → AcceptedBody p items parts false (bound ps) ss =
+      λ c. accepted false (bound ps) (called_place at g x ps ss c) (λ n. params_see p items a (called_kind x g c) ps names [] n nothing_seen param_notes)
+      ps (λ t n h. params_types p items t a (called_kind x g c) ps names [] n h (nothing_typed t) param_notes) in
+      let thread : g ≡ gives.Thread → AcceptedBody p items parts false (λ n. []) ss =
+      λ h. accepted false (λ n. []) (thread_place at g x ps ss h) (λ n. handed_see p items a (thread_kind g h) ps names [] nothing_seen param_notes)
+      [] (λ t n q. handed_types p items t a (thread_kind g h) ps names [] (nothing_typed t) param_notes) in
+      let main_body : is_main it ≡ true → AcceptedBody p items parts true (λ n. []) ss =
+      λ h. accepted true (λ n. []) h (λ n. main_see a at g x ps ss here.globals h) [] (λ t n q. main_types t a at g x ps ss here.globals h) in
       let others = all_weaker (IsListed table) (λ (j : Item). is_function x j ≡ false) (no_function table x new.fresh) done b.functions in
       let is : function_of items parts.asserts x ≡ Some (record { params = ps; body = ss; asserts = 0 + asserts_of done }) = ap (λ (is : List Item). function_of is (asserts_before is 0) x) e ∙ found_here done at g x ps ss rest 0 others in
       record {
@@ -391,9 +473,12 @@ module _ (side : Side) (items : List Item) (p : Listing) (same : p.mutexes ≡ m
           before = 0 + asserts_of done;
           is = is;
           asserts = omega (arith, ap asserts_of e, asserts_append done (it ∷ rest), small);
-          called = λ c. accepted false (bound ps) (called_place at g x ps ss c) (λ n. params_see p items a (called_kind x g c) ps names [] n nothing_seen param_notes);
-          thread = λ h. accepted false (λ n. []) (thread_place at g x ps ss h) (λ n. handed_see p items a (thread_kind g h) ps names [] nothing_seen param_notes);
-          main = λ h. accepted true (λ n. []) h (λ n. main_see a at g x ps ss here.globals h);
+          called = called;
+          thread = thread;
+          main = main_body;
+          called_is = λ c. (refl, refl);
+          thread_is = λ h. refl;
+          main_is = λ h. refl;
         };
         behind = subst (λ (q : Table). At_ (done ++ it ∷ []) acc q) back (record {
           sound = b1.sound;
@@ -408,7 +493,7 @@ module _ (side : Side) (items : List Item) (p : Listing) (same : p.mutexes ≡ m
           stmts = ss;
           is = refl;
           only = all_weaker (λ (j : Item). is_function x j ≡ false) (λ (j : Item). is_main j ≡ false) (no_main at g x ps ss h) done others;
-          body = record { body = accepted true (λ n. []) h (λ n. main_see a at g x ps ss here.globals h); noted = function_uses side items k at g x ps ss (global_names table) };
+          body = record { body = main_body h; noted = function_uses side items k at g x ps ss (global_names table) };
         };
       }
 
@@ -428,7 +513,7 @@ module _ (side : Side) (items : List Item) (p : Listing) (same : p.mutexes ≡ m
     uses : ItemUses done it (uses (listed_item side items k it (global_names table)).notes)
 
   no_globals : GlobalsFine []
-  no_globals = record { cells = tt; starts = λ few rows. tt }
+  no_globals = record { cells = tt; starts = λ few rows. tt; typed = λ fit. tt }
 
   no_uses : (done : List Item) (it : Item) (k : ℕ) (names : Names) → is_main it ≡ false → ItemUses done it (uses (listed_item side items k it names).notes)
   no_uses done it k names e = record { idle = λ q. other_idle side items k it names e; main = λ q. true_is_not (sym q ∙ e) }
@@ -465,6 +550,7 @@ module _ (side : Side) (items : List Item) (p : Listing) (same : p.mutexes ≡ m
   join_globals gs hs h g = record {
     cells = both_all (λ q. 1 ≤ cells_in q) gs hs h.cells g.cells;
     starts = λ few rows. both_all (λ q. AllByRecursion (λ e. StartsIn p.cells (start_value parts.spots e)) q.init) gs hs (h.starts few rows) (g.starts few rows);
+    typed = λ fit. both_all (Starts parts.spots (λ q e. StartTyped p q.pointer e)) gs hs (h.typed fit) (g.typed fit);
   }
 
   record WalkDone (done : List Item) (k : ℕ) (is : List Item) (table : Table) : Type 0 where

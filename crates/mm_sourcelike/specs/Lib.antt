@@ -1,2 +1,3 @@
 pub mod Ints
 pub mod Shapes
+pub mod Grammatical

@@ -1,19 +1,42 @@
 //! What holds of flattened programs.
 
-ghost use Rattle.std.specs.Prelude.{◌≡◌, ◌≢◌, ◌+◌, ◌-◌, ◌<◌, ◌≤◌, ℕ, All, IsSomeAnd, None, Some, false, length, slice_get};
+ghost use Rattle.std.specs.Prelude.{◌≡◌, ◌≢◌, ◌+◌, ◌++◌, ◌-◌, ◌<◌, ◌≤◌, ℕ, All, Bool, IsSomeAnd, None, Some, false, length, slice_get, ◌^◌, List};
+ghost use Rattle.std.specs.Str.{IsUtf8};
+ghost use Rattle.std.specs.List.{flat_map};
 ghost use Rattle.mm_goto.specs.declared.program.Instr.{Instr};
 ghost use Rattle.mm_goto.specs.declared.program.Instr.TheVariants.{End, Join, Start};
 ghost use Rattle.mm_goto.specs.declared.program.Cell.{Cell};
 ghost use Rattle.mm_goto.specs.declared.program.Thread.{Thread};
-ghost use Rattle.mm_goto.specs.Sourcelike.{AreApart, IsGuarded, IsWithinSource, JumpPassesNone, UpdatesApart, is_section};
+ghost use Rattle.mm_goto.specs.Checks.{DividesInTime, targets, value_exprs};
+ghost use Rattle.mm_goto.specs.Kinds.{IsInstrTyped, NamesInts};
+ghost use Rattle.mm_goto.specs.Names.{IsDeclarable};
+ghost use Rattle.mm_goto.specs.Parts.{addressed, arrays_of, levels, nodes, numbers};
+ghost use Rattle.mm_goto.specs.Sourcelike.{AreApart, IsGuarded, IsSingle, IsSourceCell, IsSourcelike, IsWholeArray, IsWithinSource, JumpPassesNone, UpdatesApart, exprs_of, is_section, target_cells, target_nodes, target_rows};
 ghost use Rattle.mm_goto.specs.Valid.{IsValid, code_of};
 ghost use Rattle.mm_tree.specs.declared.item.Tree.{Tree};
 ghost use Rattle.mm_tree.specs.declared.side.Side.{Side};
 ghost use Rattle.mm_tree.specs.declared.side.Side.TheVariants.{Source};
 ghost use Rattle.mm_names.specs.Programs.{IsAccepted};
 ghost use Rattle.mm_flow.specs.Programs.{limit_passed, program_of};
+ghost use Rattle.mm_grammar.specs.Meaning.{IsTreeOf};
+ghost use Rattle.mm_sourcelike.specs.Grammatical.{IsGrammatical, IsUnsigned};
 ghost use Rattle.mm_sourcelike.specs.Ints.{AreInts};
 ghost use Rattle.mm_sourcelike.specs.Shapes.{IsScoped};
+
+/// The tree of a text is as the grammar has it: its numbers are ints, its declarations stand in blocks, and its expressions are short.
+pub fn a_text_has_a_grammatical_tree()
+    ensures { (side : Side) (text : List ℕ) (tree : Tree) → IsUtf8 text → length text < 2 ^ 32 → IsTreeOf side text tree → IsGrammatical side tree }
+{}
+
+/// What a text that makes sense is flattened to within the limits is a valid program.
+pub fn a_flattened_text_is_valid()
+    ensures { (side : Side) (text : List ℕ) (tree : Tree) → IsUtf8 text → length text < 2 ^ 32 → IsTreeOf side text tree → IsAccepted side tree → limit_passed side tree ≡ None → IsValid (program_of side tree) }
+{}
+
+/// What the text of a source that makes sense is flattened to within the limits is as the analyses of a source may take it.
+pub fn a_source_text_is_sourcelike()
+    ensures { (text : List ℕ) (tree : Tree) → IsUtf8 text → length text < 2 ^ 32 → IsTreeOf Source text tree → IsAccepted Source tree → limit_passed Source tree ≡ None → IsSourcelike (program_of Source tree) }
+{}
 
 /// What an accepted tree within the limits is flattened to is a valid program, where its numbers are ints and its
 /// declarations stand where the grammar has them.
@@ -75,4 +98,69 @@ pub fn main_is_never_started()
 /// Two cells of one name are two elements of one array, and mutexes have names of their own.
 pub fn names_stand_apart()
     ensures { (side : Side) (tree : Tree) → IsAccepted side tree → AreApart (program_of side tree) }
+{}
+
+/// The elements of an array are ints.
+pub fn elements_of_arrays_are_ints()
+    ensures { (tree : Tree) → IsGrammatical Source tree → (c i : ℕ) (a : Cell) → slice_get (program_of Source tree).cells c ≡ Some a → a.index ≡ Some i → a.pointer ≡ false }
+{}
+
+/// The names of cells may be declared in a source.
+pub fn cells_may_be_declared()
+    ensures { (tree : Tree) → IsGrammatical Source tree → IsAccepted Source tree → All (λ cell. IsDeclarable cell.name) (program_of Source tree).cells }
+{}
+
+/// The names of mutexes may be declared in a source.
+pub fn mutexes_may_be_declared()
+    ensures { (tree : Tree) → IsGrammatical Source tree → IsAccepted Source tree → All IsDeclarable (program_of Source tree).mutexes }
+{}
+
+/// The numbers in the instructions of a flattened source have no sign.
+pub fn numbers_have_no_sign()
+    ensures { (tree : Tree) → IsGrammatical Source tree → IsAccepted Source tree → limit_passed Source tree ≡ None → (t k : ℕ) (thread : Thread) (i : Instr) → slice_get (program_of Source tree).threads t ≡ Some thread → slice_get thread.code k ≡ Some i → All (λ e. All IsUnsigned (numbers e)) (exprs_of i) }
+{}
+
+/// What divides in an instruction of a flattened source is always reached.
+pub fn divisions_come_in_time()
+    ensures { (tree : Tree) → IsGrammatical Source tree → IsAccepted Source tree → limit_passed Source tree ≡ None → (t k : ℕ) (thread : Thread) (i : Instr) → slice_get (program_of Source tree).threads t ≡ Some thread → slice_get thread.code k ≡ Some i → All DividesInTime (exprs_of i) }
+{}
+
+/// The instructions of a flattened source have few nodes.
+pub fn instructions_are_small()
+    ensures { (tree : Tree) → IsGrammatical Source tree → IsAccepted Source tree → limit_passed Source tree ≡ None → (t k : ℕ) (thread : Thread) (i : Instr) → slice_get (program_of Source tree).threads t ≡ Some thread → slice_get thread.code k ≡ Some i → (target_nodes i ≤ 410) × All (λ e. target_nodes i + nodes e ≤ 410) (value_exprs i) }
+{}
+
+/// The expressions of a flattened source have few levels.
+pub fn expressions_are_shallow()
+    ensures { (tree : Tree) → IsGrammatical Source tree → IsAccepted Source tree → limit_passed Source tree ≡ None → (t k : ℕ) (thread : Thread) (i : Instr) → slice_get (program_of Source tree).threads t ≡ Some thread → slice_get thread.code k ≡ Some i → All (λ e. levels e ≤ 210) (exprs_of i) }
+{}
+
+/// The start values of a flattened source fit their cells.
+pub fn start_values_fit_their_cells()
+    ensures { (tree : Tree) → IsGrammatical Source tree → IsAccepted Source tree → limit_passed Source tree ≡ None → All (IsSourceCell (program_of Source tree)) (program_of Source tree).cells }
+{}
+
+/// There are types for the locals of a thread that its instructions fit.
+pub fn locals_have_types()
+    ensures { (tree : Tree) → IsGrammatical Source tree → IsAccepted Source tree → limit_passed Source tree ≡ None → (t : ℕ) (thread : Thread) → slice_get (program_of Source tree).threads t ≡ Some thread → (pointers : ℕ → Bool) × All (IsInstrTyped (program_of Source tree) pointers) thread.code }
+{}
+
+/// The addresses in a flattened source are those of ints.
+pub fn addresses_are_of_ints()
+    ensures { (tree : Tree) → IsGrammatical Source tree → IsAccepted Source tree → limit_passed Source tree ≡ None → (t k : ℕ) (thread : Thread) (i : Instr) → slice_get (program_of Source tree).threads t ≡ Some thread → slice_get thread.code k ≡ Some i → All (NamesInts (program_of Source tree)) (exprs_of i) }
+{}
+
+/// Where a flattened source names elements, it names them by their whole array.
+pub fn elements_are_of_whole_arrays()
+    ensures { (tree : Tree) → IsGrammatical Source tree → IsAccepted Source tree → limit_passed Source tree ≡ None → (t k : ℕ) (thread : Thread) (i : Instr) → slice_get (program_of Source tree).threads t ≡ Some thread → slice_get thread.code k ≡ Some i → All (IsWholeArray (program_of Source tree)) (flat_map target_rows (targets i) ++ flat_map arrays_of (exprs_of i)) }
+{}
+
+/// The cells that a flattened source names alone are no elements of arrays.
+pub fn single_cells_are_no_elements()
+    ensures { (tree : Tree) → IsGrammatical Source tree → IsAccepted Source tree → limit_passed Source tree ≡ None → (t k : ℕ) (thread : Thread) (i : Instr) → slice_get (program_of Source tree).threads t ≡ Some thread → slice_get thread.code k ≡ Some i → All (IsSingle (program_of Source tree)) (flat_map target_cells (targets i) ++ flat_map addressed (exprs_of i)) }
+{}
+
+/// What an accepted source within the limits is flattened to is a source's program, where its tree is one of the grammar.
+pub fn a_flattened_source_is_sourcelike()
+    ensures { (tree : Tree) → IsGrammatical Source tree → IsAccepted Source tree → limit_passed Source tree ≡ None → IsSourcelike (program_of Source tree) }
 {}

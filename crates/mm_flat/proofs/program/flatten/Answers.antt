@@ -1,5 +1,7 @@
 use Rattle.std.proofs.Common.{◌≡◌, ◌∙◌, sym, subst, List, map, None, Some, IfErr, IfOk, OnOk}
+use Rattle.mm_goto.specs.declared.ident.Ident.{Ident}
 use Rattle.mm_goto.specs.Listing.{Listing}
+use Rattle.mm_goto.specs.Valid.{IsValid}
 use Rattle.mm_tree.specs.declared.item.Item.{Item}
 use Rattle.mm_flow.specs.declared.names.Parts.{Parts}
 use Rattle.mm_flow.specs.Programs.{limit_passed, parts_of, thread_of, threads_in, threads_of}
@@ -7,6 +9,23 @@ use Rattle.mm_flat.specs.reading.Refusal.{WhenTooMany, passed_before, passed_wit
 use Rattle.mm_flat.specs.reading.Threading.{listing}
 use Rattle.mm_flat.proofs.Limiting.{of_tree, then_within}
 use Rattle.mm_flat.proofs.program.flatten.Goals as goal
+
+pub within_instructions-requires : goal.within_instructions-requires
+within_instructions-requires c =
+    let items : List Item = c.args.tree.now.items in
+    let is : List Item = c.items-items.result.now in
+    let p : Parts = c.in_ok-parts.parts in
+    let fs : List Ident = c.deref-in-None.result.now in
+    let T : c.deref.result.now ≡ threads_in p = c.deref.ensures.value ∙ c.in_ok-functions.ensures in
+    let U : fs ≡ threads_in p = c.deref-in-None.ensures.value ∙ c.in_ok-functions.ensures in
+    let none : passed_before is p c.deref.result.now ≡ None = sym c.in_ok-limit.ensures ∙ c.in-None.is in
+    let E : limit_passed c.args.side c.args.tree.now ≡ passed_within c.args.side items (parts_of c.args.side items) (threads_in (parts_of c.args.side items)) (threads_of (parts_of c.args.side items) items) =
+    then_within c.args.side items (parts_of c.args.side items)
+    (of_tree c.args.side items is p c.deref.result.now (λ js q gs. passed_before js q gs ≡ None) c.items-items.ensures c.in_ok-parts.ensures T none) in
+    let Sound : List Item → Parts → List Ident → Type 0 = λ js q gs. passed_within c.args.side js q gs (map (thread_of q js) gs) ≡ None → IsValid (listing q js (map (thread_of q js) gs)) in
+    let back : Sound items (parts_of c.args.side items) (threads_in (parts_of c.args.side items)) → Sound is p fs =
+    of_tree c.args.side items is p fs (λ js q gs. Sound js q gs → Sound is p fs) c.items-items.ensures c.in_ok-parts.ensures U (λ h. h) in
+    record { valid = back (λ h. c.requires.valid (E ∙ h)) }
 
 pub returns-clause-program : goal.returns-clause-program
 returns-clause-program c =
