@@ -1,10 +1,24 @@
 mod Bodies
-mod Items
+mod BodyReads
+mod ExpressionForms
+mod ExpressionReads
+mod Heads
+mod ItemReads
+mod Limits
 pub mod Lines
 mod Lookup
 pub mod Mains
 mod Operands
+mod PartReads
+mod ReadBack
+mod Reading
+mod Roomy
 mod Says
 mod Signs
-mod Statements
+mod SmallItems
+mod SmallStatements
+mod Spelling
+mod StatementForms
+mod StatementReads
+mod Texts
 pub mod Whole

@@ -23,7 +23,7 @@ use Rattle.mm_print.proofs.Lookup.{declared, labelled, label_found, HasPlace}
 use Rattle.mm_print.proofs.Operands.{local_says}
 use Rattle.mm_print.proofs.Says.{Says, ascii_says, blank_says, newline_says, semicolon_says}
 use Rattle.mm_print.proofs.Signs.{Sign, named, keyword, semicolon, place, skipped}
-use Rattle.mm_print.proofs.Statements.{load_rest, store_rest, assert_rest, jump_rest, return_rest}
+use Rattle.mm_print.proofs.SmallStatements.{load_rest, store_rest, assert_rest, jump_rest, return_rest}
 
 -- ---- the statements
 

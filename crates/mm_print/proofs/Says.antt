@@ -92,7 +92,7 @@ blank_says s = space_says 32 refl refl s
 pub newline_says : {bs : List ℕ} {ss : List Sign} → Says bs ss → Says (10 ∷ bs) ss
 newline_says s = space_says 10 refl refl s
 
-mark_says : (c : ℕ) (w : List ℕ) (m : Symbol) {bs : List ℕ} {ss : List Sign} → is_single c ≡ true → list_all is_ascii (c ∷ w) ≡ true → (c == 47) ≡ false → mark_symbol (c ∷ w) ≡ m → mark_len (c ∷ (w ++ chars bs)) ≡ length (c ∷ w) → Says bs ss → Says (c ∷ (w ++ bs)) (mark m (c ∷ w) ∷ ss)
+pub mark_says : (c : ℕ) (w : List ℕ) (m : Symbol) {bs : List ℕ} {ss : List Sign} → is_single c ≡ true → list_all is_ascii (c ∷ w) ≡ true → (c == 47) ≡ false → mark_symbol (c ∷ w) ≡ m → mark_len (c ∷ (w ++ chars bs)) ≡ length (c ∷ w) → Says bs ss → Says (c ∷ (w ++ bs)) (mark m (c ∷ w) ∷ ss)
 mark_says c w m {bs = bs} {ss = ss} e a n k l s = record {
   utf8 = ascii_word_utf8 (c ∷ w) bs a s.utf8;
   spells = subst (λ cs. Spells false cs (map lexeme (mark m (c ∷ w) ∷ ss))) (sym (ascii_word (c ∷ w) bs a)) (mark_on false c w (chars bs) (map lexeme ss) e a (apart 47) (apart 42) l s.spells);
@@ -149,7 +149,7 @@ word_says x m {bs = bs} {ss = ss} u n k e s = record {
   signs = (record { symbol = k; spelling = refl }, s.signs);
 }
 
-ascii_name : (x : List ℕ) → is_ascii_name x ≡ true → is_name (chars x) ≡ true
+pub ascii_name : (x : List ℕ) → is_ascii_name x ≡ true → is_name (chars x) ≡ true
 ascii_name x h = ap is_name (sym (ap chars (append-nil x)) ∙ ascii_word x [] (name_is_ascii x h) ∙ ap (λ cs. x ++ cs) chars-nil ∙ append-nil x) ∙ name_from_ascii x h
 
 -- a word of ASCII

@@ -43,7 +43,7 @@ use Rattle.mm_grammar.specs.ProgramGrammar.{AreItems, IsProgram}
 use Rattle.mm_print.specs.SmallListing.{IsSmallCell, IsSmallInstr, IsSmallListing}
 use Rattle.mm_print.specs.SmallText.{name_in, cell_text, global_text, main_text, head_text, small_text, no_thread}
 use Rattle.mm_print.specs.Woven.{woven, woven_main}
-use Rattle.mm_print.proofs.Items.{ItemsRead, Items, main_items, globals_items}
+use Rattle.mm_print.proofs.SmallItems.{ItemsRead, Items, main_items, globals_items}
 use Rattle.mm_print.proofs.Mains.{HasNames, AreSmall}
 use Rattle.mm_print.proofs.Says.{Says, ascii_word, ascii_word_utf8, digits_all, ascii_says, newline_says, blank_says, semicolon_says, open_says, close_says}
 use Rattle.mm_print.proofs.Signs.{Sign, AreSigns, named, keyword, lexeme, semicolon, open_mark, close_mark, places, skipped, laid, terminals_laid}

@@ -1,4 +1,11 @@
+pub mod Expressions
+pub mod HeadLines
+pub mod Items
 pub mod Meaning
+pub mod Pieces
+pub mod Printable
+pub mod Room
 pub mod SmallListing
 pub mod SmallText
+pub mod Statements
 pub mod Woven

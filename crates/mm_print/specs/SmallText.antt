@@ -3,10 +3,6 @@ use Rattle.std.specs.Prelude.{ℕ, zero, suc, ◌+◌, Bool, true, false, List, 
 use Rattle.std.specs.List.{flat_map, slice_index_or}
 use Rattle.std.specs.Fmt.{decimal, signed_decimal}
 use Rattle.mm_goto.specs.declared.model.Model.{Model}
-use Rattle.mm_goto.specs.declared.pure.Unary.{Unary}
-use Rattle.mm_goto.specs.declared.pure.Unary.TheVariants as unary
-use Rattle.mm_goto.specs.declared.pure.Binary.{Binary}
-use Rattle.mm_goto.specs.declared.pure.Binary.TheVariants as binary
 use Rattle.mm_goto.specs.declared.pure.Pure.{Pure}
 use Rattle.mm_goto.specs.declared.pure.Pure.TheOpen.{Pure-F, Const, Local, Addr, AddrElem, Un, Bin, Cond}
 use Rattle.mm_goto.specs.declared.pure.Pure.TheFolds.{fold-Pure}
@@ -18,38 +14,13 @@ use Rattle.mm_goto.specs.declared.program.Thread.{Thread}
 use Rattle.mm_goto.specs.Bounds.{Bounding, greatest}
 use Rattle.mm_goto.specs.Listing.{Listing}
 use Rattle.mm_goto.specs.Models.{word_of}
+use Rattle.mm_print.specs.Pieces.{operator_text, mark_text, sign_of}
 
 -- ---- expressions
 
 -- wm_r and the number of a local
 abbrev pub local_text : ℕ → List ℕ
 local_text l = codes "wm_r" ++ decimal l
-
-abbrev pub unary_mark : Unary → List ℕ
-unary_mark unary.Neg = codes "-"
-unary_mark unary.Plus = codes "+"
-unary_mark unary.Not = codes "!"
-unary_mark unary.Flip = codes "~"
-
-abbrev pub binary_mark : Binary → List ℕ
-binary_mark binary.Add = codes "+"
-binary_mark binary.Sub = codes "-"
-binary_mark binary.Mul = codes "*"
-binary_mark binary.Div = codes "/"
-binary_mark binary.Rem = codes "%"
-binary_mark binary.Shl = codes "<<"
-binary_mark binary.Shr = codes ">>"
-binary_mark binary.Lt = codes "<"
-binary_mark binary.Le = codes "<="
-binary_mark binary.Gt = codes ">"
-binary_mark binary.Ge = codes ">="
-binary_mark binary.Eq = codes "=="
-binary_mark binary.Ne = codes "!="
-binary_mark binary.And = codes "&"
-binary_mark binary.Xor = codes "^"
-binary_mark binary.Or = codes "|"
-binary_mark binary.Land = codes "&&"
-binary_mark binary.Lor = codes "||"
 
 -- an expression by itself, and whether it has parentheses as an operand
 pub record Written : Type 0 where
@@ -73,8 +44,8 @@ written_step (Const z) = record { text = signed_decimal z; compound = false }
 written_step (Local l) = record { text = local_text l; compound = false }
 written_step (Addr c) = record { text = decimal (c + 1); compound = false }
 written_step (AddrElem first len index) = record { text = decimal (first + 1) ++ codes " + " ++ operand index; compound = true }
-written_step (Un op x) = record { text = unary_mark op ++ operand x; compound = true }
-written_step (Bin op x y) = record { text = operand x ++ codes " " ++ binary_mark op ++ codes " " ++ operand y; compound = true }
+written_step (Un op x) = record { text = mark_text (sign_of op) ++ operand x; compound = true }
+written_step (Bin op x y) = record { text = operand x ++ codes " " ++ operator_text op ++ codes " " ++ operand y; compound = true }
 written_step (Cond c x y) = record { text = operand c ++ codes " ? " ++ operand x ++ codes " : " ++ operand y; compound = true }
 
 -- the text of an expression: one blank around each operator between operands

@@ -1,7 +1,16 @@
-//! The printer: from a woven program to its text.
+//! The printer: from a program to its text.
 #![tactic(auto)]
 
+mod expressions;
+mod head;
+mod items;
 pub mod laws;
+mod lists;
+mod parts;
+mod printed;
 mod small;
+mod statements;
+mod words;
 
+pub use printed::print;
 pub use small::print_small;

@@ -1,9 +1,10 @@
 ghost use Rattle.std.specs.Prelude.{◌≡◌, ◌+◌, ◌<◌, ◌^◌, ◌++◌, OnOk, IfOk, length, string_bytes};
 ghost use Rattle.std.specs.List.{flat_map};
-ghost use Rattle.mm_print.specs.SmallText.{local_text, unary_mark, binary_mark, opening, closing, operand, written, cell_text, label_text, instr_text, line_text, code_text, global_text, locals_text, main_text, head_text, small_text};
+ghost use Rattle.mm_print.specs.SmallText.{local_text, opening, closing, operand, written, cell_text, label_text, instr_text, line_text, code_text, global_text, locals_text, main_text, head_text, small_text};
 
+use crate::words::{operator_text, unary_text};
 use mm_goto::text::{put, put_int, put_number};
-use mm_goto::{Binary, Bound, Cell, Instr, Model, NoMemory, Program, Pure, Target, Thread, Unary};
+use mm_goto::{Bound, Cell, Instr, Model, NoMemory, Program, Pure, Target, Thread};
 use std::alloc::Global;
 
 fn put_local(alloc: Global, out: &mut String, local: u32) -> Result<(), NoMemory>
@@ -18,42 +19,6 @@ fn put_label(alloc: Global, out: &mut String, place: u32) -> Result<(), NoMemory
 {
     put(out, "wm_")?;
     put_number(alloc, out, u64::from(place))
-}
-
-fn unary_mark(op: Unary) -> &'static str
-    ensures { result.now ≡ unary_mark op }
-{
-    match op {
-        Unary::Neg => "-",
-        Unary::Plus => "+",
-        Unary::Not => "!",
-        Unary::Flip => "~",
-    }
-}
-
-fn binary_mark(op: Binary) -> &'static str
-    ensures { result.now ≡ binary_mark op }
-{
-    match op {
-        Binary::Add => "+",
-        Binary::Sub => "-",
-        Binary::Mul => "*",
-        Binary::Div => "/",
-        Binary::Rem => "%",
-        Binary::Shl => "<<",
-        Binary::Shr => ">>",
-        Binary::Lt => "<",
-        Binary::Le => "<=",
-        Binary::Gt => ">",
-        Binary::Ge => ">=",
-        Binary::Eq => "==",
-        Binary::Ne => "!=",
-        Binary::And => "&",
-        Binary::Xor => "^",
-        Binary::Or => "|",
-        Binary::Land => "&&",
-        Binary::Lor => "||",
-    }
 }
 
 fn opening(compound: bool) -> &'static str
@@ -104,13 +69,13 @@ fn put_pure(alloc: Global, out: &mut String, e: &Pure) -> Result<(), NoMemory>
             put_operand(alloc, out, index.get())
         }
         Pure::Un(op, x) => {
-            put(out, unary_mark(*op))?;
+            put(out, unary_text(*op))?;
             put_operand(alloc, out, x.get())
         }
         Pure::Bin(op, x, y) => {
             put_operand(alloc, out, x.get())?;
             put(out, " ")?;
-            put(out, binary_mark(*op))?;
+            put(out, operator_text(*op))?;
             put(out, " ")?;
             put_operand(alloc, out, y.get())
         }
