@@ -42,6 +42,9 @@ IsSound r s t (Updates l v c w) = c < length s.memory
 IsSound r s t (Takes k) = k < length s.owners
 IsSound r s t (Gives k) = k < length s.owners
 IsSound r s t (Starts u) = (u < length s.threads) × (u ≢ t)
+IsSound r s t (Loads l c v) = c < length s.memory
+IsSound r s t (Misses l c) = c < length s.memory
+IsSound r s t (Joins u) = u < length s.threads
 IsSound r s t _ = Unit {0}
 
 pub record Sound (r : Rules) (s : State) (t : ℕ) (a : Act) : Type 0 where
@@ -91,9 +94,9 @@ module _ (r : Rules) (s : State) (t : ℕ) (thread : t < length s.threads) (plac
   begun-sound None u e = tt
   begun-sound (Some g) u e = guarded-given (Sound r s t) (not g.started) (Some (Starts u)) (λ no. sound (Starts u) tt (slice_get_within s.threads u g e, not-itself s t u g started e no))
 
-  joined-sound : (o : Option Frame) (empty : Bool) (u : ℕ) → IfSome (joined o empty u) (Sound r s t)
-  joined-sound None empty u = tt
-  joined-sound (Some g) empty u = guarded-if (Sound r s t) (g.ended && empty) (Some (Joins u)) (sound (Joins u) tt tt)
+  joined-sound : (o : Option Frame) (empty : Bool) (u : ℕ) → slice_get s.threads u ≡ o → IfSome (joined o empty u) (Sound r s t)
+  joined-sound None empty u e = tt
+  joined-sound (Some g) empty u e = guarded-if (Sound r s t) (g.ended && empty) (Some (Joins u)) (sound (Joins u) tt (slice_get_within s.threads u g e))
 
   -- the store, where there is room and where nothing counts
   pends-sound : (m : Model) (bound c : ℕ) (v : ℤ) → (length (part m (pending_of s t) c) < bound → Sound r s t (Pushes c v)) → IfSome (stored (pends m bound (pending_of s t) c) c v) (Sound r s t)
@@ -129,7 +132,7 @@ module _ (r : Rules) (s : State) (t : ℕ) (thread : t < length s.threads) (plac
   act-sound : (i : Instr) → IsBounded r t (pending_of s t) → IsWithin (length s.memory) (length (frame_of s t).locals) i → IfSome (act r s t (frame_of s t) i) Is
   unfolding act
   act-sound (Set l e) b h = ok (Assigns l _) h.0 tt
-  act-sound (Load l target) b h = bind-if Is (cell_of (length s.memory) (frame_of s t).locals target) (λ c. Some (Loads l c (seen s t c))) (λ c. ok (Loads l c (seen s t c)) h.0 tt)
+  act-sound (Load l target) b h = bind-with Is (λ c. c < length s.memory) (cell_of (length s.memory) (frame_of s t).locals target) (λ c. Some (Loads l c (seen s t c))) (target_within (length s.memory) (length (frame_of s t).locals) (frame_of s t).locals target h.1) (λ c k. ok (Loads l c (seen s t c)) h.0 k)
   act-sound (Store target e) b h = bind-with Is (λ c. c < length s.memory) (cell_of (length s.memory) (frame_of s t).locals target) (λ c. stored (store_of r t (frame_of s t).place (pending_of s t) c) c (value_of e (frame_of s t).locals)) (target_within (length s.memory) (length (frame_of s t).locals) (frame_of s t).locals target h.0) (λ c l. store-sound r s t (frame_of s t).place c (value_of e (frame_of s t).locals) thread place started b l)
   act-sound (Input l) b h = tt
   act-sound (Jump k) b h = ok (Goes k) tt tt
@@ -140,9 +143,9 @@ module _ (r : Rules) (s : State) (t : ℕ) (thread : t < length s.threads) (plac
   act-sound (Lock k) b h = guarded-if Is _ (locked (slice_get s.owners k) k) (locked-sound r s t thread place started (slice_get s.owners k) k refl)
   act-sound (Unlock k) b h = guarded-if Is _ (unlocked (slice_get s.owners k) t k) (unlocked-sound r s t thread place started (slice_get s.owners k) k refl)
   act-sound (Add l target e) b h = guarded-if Is _ _ (bind-with Is (λ c. c < length s.memory) (cell_of (length s.memory) (frame_of s t).locals target) _ (target_within (length s.memory) (length (frame_of s t).locals) (frame_of s t).locals target h.1) (λ c k. ok (Updates l (at_cell s c) c _) h.0 k))
-  act-sound (Cas l target e g) b h = guarded-if Is _ _ (bind-with Is (λ c. c < length s.memory) (cell_of (length s.memory) (frame_of s t).locals target) _ (target_within (length s.memory) (length (frame_of s t).locals) (frame_of s t).locals target h.1) (λ c k. either-if Is _ (Updates l (pos 1) c (value_of g (frame_of s t).locals)) (Misses l c) (ok (Updates l (pos 1) c (value_of g (frame_of s t).locals)) h.0 k) (ok (Misses l c) h.0 tt)))
+  act-sound (Cas l target e g) b h = guarded-if Is _ _ (bind-with Is (λ c. c < length s.memory) (cell_of (length s.memory) (frame_of s t).locals target) _ (target_within (length s.memory) (length (frame_of s t).locals) (frame_of s t).locals target h.1) (λ c k. either-if Is _ (Updates l (pos 1) c (value_of g (frame_of s t).locals)) (Misses l c) (ok (Updates l (pos 1) c (value_of g (frame_of s t).locals)) h.0 k) (ok (Misses l c) h.0 k)))
   act-sound (Start u) b h = guarded-if Is _ (begun (slice_get s.threads u) u) (begun-sound r s t thread place started (slice_get s.threads u) u refl)
-  act-sound (Join u) b h = guarded-if Is _ (joined (slice_get s.threads u) (is_empty (pending_of s u)) u) (joined-sound r s t thread place started (slice_get s.threads u) (is_empty (pending_of s u)) u)
+  act-sound (Join u) b h = guarded-if Is _ (joined (slice_get s.threads u) (is_empty (pending_of s u)) u) (joined-sound r s t thread place started (slice_get s.threads u) (is_empty (pending_of s u)) u refl)
   act-sound AtomBegin b h = guarded-if Is _ (Some Enters) (ok Enters tt tt)
   act-sound AtomEnd b h = guarded-if Is _ (Some Leaves) (ok Leaves tt tt)
   act-sound End b h = ok Ends tt tt
@@ -253,3 +256,43 @@ module _ (r : Rules) (p : Listing) (m : Roomy) (fits : Fits r p m.state) (room :
 
   pub can_happen : (e : Entry) (v : Event) → event r p m.state e ≡ Some v → CanHappen m v
   can_happen e v is = sound-can v (if-at (IsSoundEvent r m.state) (event r p m.state e) v is (event-sound r p m.state e fits))
+
+-- ---- names
+
+-- the cells, mutexes and threads that the act names are there
+abbrev pub Names : State → Act → Type 0
+Names s (Loads l c v) = c < length s.memory
+Names s (Pushes c v) = c < length s.memory
+Names s (Puts c v) = c < length s.memory
+Names s (Updates l v c w) = c < length s.memory
+Names s (Misses l c) = c < length s.memory
+Names s (Takes m) = m < length s.owners
+Names s (Gives m) = m < length s.owners
+Names s (Starts u) = u < length s.threads
+Names s (Joins u) = u < length s.threads
+Names s _ = Unit {0}
+
+-- those of the event are there
+abbrev pub HasNames : State → Event → Type 0
+HasNames s (Does t a) = (t < length s.threads) × Names s a
+HasNames s (Flushes t c v) = (t < length s.pending) × (c < length s.memory)
+
+module _ (r : Rules) (p : Listing) (s : State) (fits : Fits r p s) where
+  names-it : (t : ℕ) (a : Act) → Sound r s t a → Names s a
+  names-it t (Loads l c v) h = h.there
+  names-it t (Pushes c v) h = h.there.0
+  names-it t (Puts c v) h = h.there
+  names-it t (Updates l v c w) h = h.there
+  names-it t (Misses l c) h = h.there
+  names-it t (Takes k) h = h.there
+  names-it t (Gives k) h = h.there
+  names-it t (Starts u) h = h.there.0
+  names-it t (Joins u) h = h.there
+  names-it t _ h = tt
+
+  sound-names : (v : Event) → IsSoundEvent r s v → HasNames s v
+  sound-names (Flushes t c v) h = h
+  sound-names (Does t a) h = (h.thread, names-it t a h)
+
+  pub has_names : (e : Entry) (v : Event) → event r p s e ≡ Some v → HasNames s v
+  has_names e v is = sound-names v (if-at (IsSoundEvent r s) (event r p s e) v is (event-sound r p s e fits))

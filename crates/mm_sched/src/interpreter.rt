@@ -3,15 +3,15 @@
 mod apply;
 mod event;
 
-ghost use Rattle.std.specs.Prelude.{◌≡◌, ◌<◌, ◌≤◌, ◌++◌, [], All, None, false, length, map, ◌^◌, IfOk, OnOk};
+ghost use Rattle.std.specs.Prelude.{◌≡◌, ◌<◌, ◌≤◌, ◌++◌, [], All, None, false, length, map, ◌^◌, IfOk, OnOk, MatchOption};
 ghost use Rattle.mm_goto.specs.Locals.{local_bound};
 ghost use Rattle.mm_goto.specs.Value.{value_of};
 ghost use Rattle.mm_sched.specs.State.{initial, all_at_start, at_start, frame_of, pending_of};
-ghost use Rattle.mm_sched.specs.Event.{next};
+ghost use Rattle.mm_sched.specs.Event.{next, event, after};
 ghost use Rattle.mm_sched.specs.Invariant.{Fits, room_of};
 ghost use Rattle.mm_sched.specs.Running.{Follows};
 
-use crate::entry::{Entry, Rules, Stuck};
+use crate::entry::{Entry, Event, Rules, Stuck};
 use crate::frame::Frame;
 use crate::rules::room_of;
 use crate::waiting::Waiting;
@@ -89,6 +89,20 @@ impl Interpreter {
         self.pending.of(t)
     }
 
+    /// Takes the entry, and says what happens by it. On a `None` it is not enabled, and the machine stays.
+    pub fn take(&mut self, rules: &Rules, program: &Program, entry: Entry) -> Option<Event>
+        requires fits { Fits rules.now program.now self.old.state }
+        requires room { room_of rules.now (length program.now.cells) ≤ self.old.room }
+        ensures room { self.new.room ≡ self.old.room }
+        ensures fits { Fits rules.now program.now self.new.state }
+        ensures event { result ≡ event rules.now program.now self.old.state entry }
+        ensures state { MatchOption result (self.new.state ≡ self.old.state) (λ e. self.new.state ≡ after self.old.state e) }
+    {
+        let event = self.event(rules, program, entry)?;
+        self.apply(event);
+        Some(event)
+    }
+
     /// Takes the entry. On an `Err` it is not enabled.
     pub fn step(&mut self, rules: &Rules, program: &Program, entry: Entry) -> Result<(), Stuck>
         requires fits { Fits rules.now program.now self.old.state }
@@ -97,11 +111,8 @@ impl Interpreter {
         ensures fits { Fits rules.now program.now self.new.state }
         ensures step { Follows (next rules.now program.now self.old.state entry) self.old.state result self.new.state }
     {
-        match self.event(rules, program, entry) {
-            Some(event) => {
-                self.apply(event);
-                Ok(())
-            }
+        match self.take(rules, program, entry) {
+            Some(_) => Ok(()),
             None => Err(Stuck),
         }
     }

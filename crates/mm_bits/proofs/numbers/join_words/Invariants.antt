@@ -1,0 +1,9 @@
+use Rattle.std.proofs.Common.{◌≡◌, ℕ, ◌<◌, ◌≤◌, length, get_or}
+use Rattle.std.specs.Prelude.{bit_or}
+use Rattle.mm_bits.proofs.numbers.join_words.Given as goal
+
+abbrev pub invariant-words : goal.invariant-words
+invariant-words l =
+    (length l.into ≡ 16)
+    × ((j : ℕ) → j < l.k → get_or l.into j 0 ≡ bit_or (get_or l.fn.into j 0) (get_or l.other j 0))
+    × ((j : ℕ) → l.k ≤ j → get_or l.into j 0 ≡ get_or l.fn.into j 0)

@@ -1,0 +1,4 @@
+pub mod Near
+pub mod Related
+pub mod Table
+pub mod Words

@@ -1,0 +1,11 @@
+pub mod Derived
+pub mod Growing
+pub mod Indexes
+pub mod Insertions
+pub mod InRange
+pub mod Listings
+pub mod Lists
+pub mod Ranges
+pub mod RulesOf
+pub mod Solved
+pub mod Starts

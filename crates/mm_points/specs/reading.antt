@@ -1,0 +1,4 @@
+-- What mirrors the code. Nothing that a reader believes rests on it.
+pub mod Listed
+pub mod Ruled
+pub mod Rules
