@@ -1,5 +1,5 @@
 -- The thread whose labels have got their places is the thread of the equations.
-use Rattle.std.proofs.Common.{arith, ◌≡◌, ℕ, ◌+◌, ◌<◌, List, [], ◌∷◌, ◌++◌, length, map, get_or, refl, ◌∙◌, sym, ap, subst, zero-add, drop, None, Some}
+use Rattle.std.proofs.Common.{arith, ◌≡◌, ℕ, ◌+◌, ◌<◌, List, [], ◌∷◌, ◌++◌, length, map, get_or, refl, ◌∙◌, sym, ap, subst, zero-add, drop, None}
 use Rattle.std.proofs.lemmas.List.{length-map}
 use Rattle.mm_goto.specs.declared.ident.At.{At}
 use Rattle.mm_goto.specs.declared.ident.Ident.{Ident}
@@ -7,8 +7,8 @@ use Rattle.mm_goto.specs.declared.program.Instr.TheVariants as instr
 use Rattle.mm_tree.specs.declared.item.Item.{Item}
 use Rattle.mm_flow.specs.declared.names.Parts.{Parts}
 use Rattle.mm_flow.specs.Flow.{Flow, Then, Do, Body, size, lay, Placed}
-use Rattle.mm_flow.specs.Programs.{all_to, at_entry, in_thread, laid, most_calls, named_function, place_in, the_function, thread_code, thread_flow, thread_of, flow_of, size_in}
-use Rattle.mm_flow.specs.Statements.{Function, body_code, function_of, inline_at}
+use Rattle.mm_flow.specs.Programs.{all_to, at_entry, in_thread, laid, most_calls, named_function, place_in, thread_code, thread_flow, thread_of, flow_of, size_in}
+use Rattle.mm_flow.specs.Statements.{Function, body_code, inline_at}
 use Rattle.mm_flow.specs.Text.{labels_in}
 use Rattle.mm_flow.specs.reading.Assembling.{Assembly, count, with_label, with_labels}
 use Rattle.mm_flow.specs.reading.Emission.{Made, emit, labelled}
@@ -70,33 +70,30 @@ thread_is names f at code e =
 abbrev flow_for : Parts → List Item → Ident → Function → Flow
 flow_for parts items f r = thread_flow parts items (place_in items f) r
 
-is_named : (parts : Parts) (items : List Item) (f : Ident) (r : Function) → function_of items parts.asserts f ≡ Some r → r ≡ named_function parts items f
-is_named parts items f r e = sym (ap the_function e)
-
-pub thread_of_is : (parts : Parts) (items : List Item) (f : Ident) (r : Function) (code : Assembly) → function_of items parts.asserts f ≡ Some r → code ≡ thread_made parts items f r
+pub thread_of_is : (parts : Parts) (items : List Item) (f : Ident) (r : Function) (code : Assembly) → r ≡ named_function parts items f → code ≡ thread_made parts items f r
     → settled_thread code ≡ thread_of parts items f
 thread_of_is parts items f r code e made =
     ap settled_thread made
     ∙ thread_is (labels_in r.body) (thread_code parts items r).flow (place_in items f) (thread_made parts items f r) refl
-    ∙ ap (λ q. laid (thread_code parts items q).known.next (lay (all_to (size (thread_code parts items q).flow)) (flow_for parts items f q) 0)) (is_named parts items f r e)
+    ∙ ap (λ q. laid (thread_code parts items q).known.next (lay (all_to (size (thread_code parts items q).flow)) (flow_for parts items f q) 0)) e
 
-pub count_is : (parts : Parts) (items : List Item) (f : Ident) (r : Function) (code : Assembly) → function_of items parts.asserts f ≡ Some r → code ≡ thread_made parts items f r
+pub count_is : (parts : Parts) (items : List Item) (f : Ident) (r : Function) (code : Assembly) → r ≡ named_function parts items f → code ≡ thread_made parts items f r
     → count code ≡ size (flow_of parts items f)
 count_is parts items f r code e made =
     ap count made
     ∙ whole_size (labels_in r.body) (thread_code parts items r).flow (place_in items f)
-    ∙ ap (λ q. size (flow_for parts items f q)) (is_named parts items f r e)
+    ∙ ap (λ q. size (flow_for parts items f q)) e
 
 pub code_size : (code : Assembly) → length (settled_thread code).code ≡ count code
 code_size code = length-map code.made.pieces (settled code.made.marks)
 
 -- where there is no room for the body there is none for its thread
-pub full_thread : (parts : Parts) (items : List Item) (f : Ident) (r : Function) (limit : ℕ) → function_of items parts.asserts f ≡ Some r
+pub full_thread : (parts : Parts) (items : List Item) (f : Ident) (r : Function) (limit : ℕ) → r ≡ named_function parts items f
     → limit < size (thread_code parts items r).flow
     → limit < size (flow_of parts items f)
 full_thread parts items f r limit e h =
     let more : limit < size (flow_for parts items f r) = omega arith in
-    subst (λ q. limit < size (flow_for parts items f q)) (is_named parts items f r e) more
+    subst (λ q. limit < size (flow_for parts items f q)) e more
 
 -- where there is no room behind the labels for what the statements do there is none for the body
 pub full_body : (parts : Parts) (items : List Item) (r : Function) (limit calls : ℕ) (names : List Ident) (code : Assembly)

@@ -4,7 +4,7 @@ ghost use Rattle.mm_flow.specs.Programs.{cells_of, cells_of_length, elements, fi
 ghost use Rattle.mm_tree.specs.Trees.{node_of};
 
 use crate::gather::globals_of;
-use mm_flow::names::{Spot, spot_of};
+use mm_flow::tables::Tables;
 use mm_flow::words::{address, constant, element};
 use mm_goto::{Cell, Ident, NoMemory, Pure};
 use mm_tree::{Expr, Item, Node};
@@ -30,22 +30,17 @@ fn start_index(alloc: Global, e: &Expr) -> Result<Boxed<Pure>, NoMemory>
 }
 
 /// The start value that an expression of an initialiser says.
-fn start_value(alloc: Global, spots: &[Spot], e: &Expr) -> Result<Boxed<Pure>, NoMemory>
-    ensures { IfOk result (λ p. p ≡ start_value spots.now e.now) }
+fn start_value(alloc: Global, parts: &Tables<'_>, e: &Expr) -> Result<Boxed<Pure>, NoMemory>
+    ensures { IfOk result (λ p. p ≡ start_value parts.now.spots e.now) }
 {
     match &e.node {
         Node::Number(z) => constant(alloc, *z),
-        Node::AddrName(x) => match spot_of(spots, &x.name) {
-            Some(s) => address(alloc, s.first),
-            None => Err(NoMemory),
-        },
-        Node::AddrIndex(x, i) => match spot_of(spots, &x.name) {
-            Some(s) => {
-                let index = start_index(alloc, i.get())?;
-                element(alloc, s.first, s.len, index)
-            }
-            None => Err(NoMemory),
-        },
+        Node::AddrName(x) => address(alloc, parts.cells(&x.name).first),
+        Node::AddrIndex(x, i) => {
+            let cells = parts.cells(&x.name);
+            let index = start_index(alloc, i.get())?;
+            element(alloc, cells.first, cells.len, index)
+        }
         Node::Null
         | Node::Name(_)
         | Node::Index(_, _)
@@ -77,11 +72,16 @@ fn add_cell(
 }
 
 /// The start value at an index of an initialiser, and 0 behind its end.
-fn start_at(alloc: Global, spots: &[Spot], init: &[Expr], i: usize) -> Result<Boxed<Pure>, NoMemory>
-    ensures { IfOk result (λ p. p ≡ first_start spots.now (drop i init.now)) }
+fn start_at(
+    alloc: Global,
+    parts: &Tables<'_>,
+    init: &[Expr],
+    i: usize,
+) -> Result<Boxed<Pure>, NoMemory>
+    ensures { IfOk result (λ p. p ≡ first_start parts.now.spots (drop i init.now)) }
 {
     match init.get(i) {
-        Some(e) => start_value(alloc, spots, e),
+        Some(e) => start_value(alloc, parts, e),
         None => constant(alloc, 0),
     }
 }
@@ -90,14 +90,14 @@ fn start_at(alloc: Global, spots: &[Spot], init: &[Expr], i: usize) -> Result<Bo
 fn add_elements(
     alloc: Global,
     out: &mut Vec<Cell>,
-    spots: &[Spot],
+    parts: &Tables<'_>,
     global: &mm_tree::Global,
     count: u32,
 ) -> Result<(), NoMemory>
-    ensures { OnOk result (out.new.items ≡ out.old.items ++ elements spots.now global.now 0 count global.now.init) }
+    ensures { OnOk result (out.new.items ≡ out.old.items ++ elements parts.now.spots global.now 0 count global.now.init) }
 {
     for i in 0..count {
-        let init = start_at(alloc, spots, global.init.items(), i as usize)?;
+        let init = start_at(alloc, parts, global.init.items(), i as usize)?;
         add_cell(alloc, out, global, Some(i), init)?;
     }
     Ok(())
@@ -107,18 +107,18 @@ fn add_elements(
 fn add_global(
     alloc: Global,
     out: &mut Vec<Cell>,
-    spots: &[Spot],
+    parts: &Tables<'_>,
     global: &mm_tree::Global,
 ) -> Result<(), NoMemory>
-    ensures { OnOk result (out.new.items ≡ out.old.items ++ cells_of_length spots.now global.now global.now.len) }
+    ensures { OnOk result (out.new.items ≡ out.old.items ++ cells_of_length parts.now.spots global.now global.now.len) }
 {
     match global.len {
         Some(len) => {
             let count = u32::try_from(len).unwrap_or(0);
-            add_elements(alloc, out, spots, global, count)
+            add_elements(alloc, out, parts, global, count)
         }
         None => {
-            let init = start_at(alloc, spots, global.init.items(), 0)?;
+            let init = start_at(alloc, parts, global.init.items(), 0)?;
             add_cell(alloc, out, global, None, init)
         }
     }
@@ -127,13 +127,13 @@ fn add_global(
 fn add_globals(
     alloc: Global,
     out: &mut Vec<Cell>,
-    spots: &[Spot],
+    parts: &Tables<'_>,
     globals: &[mm_tree::Global],
 ) -> Result<(), NoMemory>
-    ensures { OnOk result (out.new.items ≡ out.old.items ++ cells_of spots.now globals.now) }
+    ensures { OnOk result (out.new.items ≡ out.old.items ++ cells_of parts.now.spots globals.now) }
 {
     for global in globals {
-        add_global(alloc, out, spots, global)?;
+        add_global(alloc, out, parts, global)?;
     }
     Ok(())
 }
@@ -141,24 +141,24 @@ fn add_globals(
 fn add_globals_of(
     alloc: Global,
     out: &mut Vec<Cell>,
-    spots: &[Spot],
+    parts: &Tables<'_>,
     item: &Item,
 ) -> Result<(), NoMemory>
-    ensures { OnOk result (out.new.items ≡ out.old.items ++ cells_of spots.now (globals_of item.now)) }
+    ensures { OnOk result (out.new.items ≡ out.old.items ++ cells_of parts.now.spots (globals_of item.now)) }
 {
     match globals_of(item) {
-        Some(globals) => add_globals(alloc, out, spots, globals),
+        Some(globals) => add_globals(alloc, out, parts, globals),
         None => Ok(()),
     }
 }
 
 /// The cells of the globals of a text.
-pub fn cells_of(alloc: Global, spots: &[Spot], items: &[Item]) -> Result<Vec<Cell>, NoMemory>
-    ensures { IfOk result (λ out. out.items ≡ cells_of spots.now (globals_in items.now)) }
+pub fn cells_of(alloc: Global, parts: &Tables<'_>, items: &[Item]) -> Result<Vec<Cell>, NoMemory>
+    ensures { IfOk result (λ out. out.items ≡ cells_of parts.now.spots (globals_in items.now)) }
 {
     let mut out = Vec::new(alloc);
     for item in items {
-        add_globals_of(alloc, &mut out, spots, item)?;
+        add_globals_of(alloc, &mut out, parts, item)?;
     }
     Ok(out)
 }

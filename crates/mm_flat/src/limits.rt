@@ -6,10 +6,9 @@ ghost use Rattle.mm_flat.specs.reading.Nesting.{callee, callees, called_by, deep
 ghost use Rattle.mm_flat.specs.reading.Refusal.{passed_before, passed_behind};
 
 use crate::gather::{body_of, cells_in, globals_of};
-use mm_flat_stmt::is_function;
 use mm_flow::fault::Limit;
 use mm_flow::mentions::{Mention, mentions};
-use mm_flow::names::Parts;
+use mm_flow::tables::{Functions, Tables};
 use mm_goto::limits::{MAX_CELLS, MAX_INSTRUCTIONS, MAX_LOCALS, MAX_MUTEXES, MAX_THREADS};
 use mm_goto::{Ident, List, NoMemory, Thread};
 use mm_tree::{Item, Side, Stmt};
@@ -92,13 +91,17 @@ fn more_cells(count: usize, globals: &[mm_tree::Global]) -> usize
 }
 
 /// The item of a function.
-fn callee(items: &[Item], f: &Ident) -> Option<usize>
+fn callee(items: &Functions<'_>, f: &Ident) -> Option<usize>
     ensures { result ≡ callee items.now f.now }
 {
-    items.iter().position(|item| is_function(item, f.text()))
+    items.place_of(f.text())
 }
 
-fn add_callee(out: &mut Vec<usize>, items: &[Item], mention: &Mention) -> Result<(), NoMemory>
+fn add_callee(
+    out: &mut Vec<usize>,
+    items: &Functions<'_>,
+    mention: &Mention,
+) -> Result<(), NoMemory>
     ensures { OnOk result (out.new.items ≡ out.old.items ++ callees items.now (calls (mention.now ∷ []))) }
 {
     match mention {
@@ -113,7 +116,7 @@ fn add_callee(out: &mut Vec<usize>, items: &[Item], mention: &Mention) -> Result
 }
 
 /// The items of the functions that a body calls.
-fn callees(alloc: Global, items: &[Item], body: &[Stmt]) -> Result<Vec<usize>, NoMemory>
+fn callees(alloc: Global, items: &Functions<'_>, body: &[Stmt]) -> Result<Vec<usize>, NoMemory>
     ensures { IfOk result (λ out. out.items ≡ callees items.now (calls_in body.now)) }
 {
     let mentions = mentions(alloc, body)?;
@@ -124,18 +127,18 @@ fn callees(alloc: Global, items: &[Item], body: &[Stmt]) -> Result<Vec<usize>, N
     Ok(out)
 }
 
-fn graph(alloc: Global, items: &[Item]) -> Result<Vec<List<usize>>, NoMemory>
+fn graph(alloc: Global, items: &Functions<'_>) -> Result<Vec<List<usize>>, NoMemory>
     ensures { IfOk result (λ out. out.items ≡ graph items.now) }
 {
     let mut out = Vec::new(alloc);
-    for item in items {
+    for item in items.items() {
         let called = called_by(alloc, items, item)?;
         out.push(List::new(called))?;
     }
     Ok(out)
 }
 
-fn called_by(alloc: Global, items: &[Item], item: &Item) -> Result<Vec<usize>, NoMemory>
+fn called_by(alloc: Global, items: &Functions<'_>, item: &Item) -> Result<Vec<usize>, NoMemory>
     ensures { IfOk result (λ out. out.items ≡ called_by items.now item.now) }
 {
     match body_of(item) {
@@ -196,7 +199,7 @@ fn deep_after(alloc: Global, graph: &[List<usize>], count: u32) -> Result<Vec<bo
     Ok(deep)
 }
 
-fn deep_of(items: &[Item], deep: &[bool], f: &Ident) -> bool
+fn deep_of(items: &Functions<'_>, deep: &[bool], f: &Ident) -> bool
     ensures { result ≡ deep_of deep.now (callee items.now f.now) }
 {
     match callee(items, f) {
@@ -207,7 +210,11 @@ fn deep_of(items: &[Item], deep: &[bool], f: &Ident) -> bool
 
 /// Whether calls nest too deep in one of the functions.
 #[tactic(auto, using(crate::proofs::Nests::nests_is))]
-fn nests_too_deep(alloc: Global, items: &[Item], functions: &[Ident]) -> Result<bool, NoMemory>
+fn nests_too_deep(
+    alloc: Global,
+    items: &Functions<'_>,
+    functions: &[Ident],
+) -> Result<bool, NoMemory>
     ensures { IfOk result (λ b. b ≡ nests_too_deep items.now functions.now) }
 {
     let graph = graph(alloc, items)?;
@@ -220,23 +227,23 @@ fn nests_too_deep(alloc: Global, items: &[Item], functions: &[Ident]) -> Result<
     Ok(false)
 }
 
-fn has_more_threads(parts: &Parts) -> bool
+fn has_more_threads(parts: &Tables<'_>) -> bool
     ensures { result ≡ nat_lt most_threads (1 + length parts.now.starts) }
 {
-    MAX_THREADS <= parts.starts.items().len()
+    MAX_THREADS <= parts.starts().len()
 }
 
-fn has_more_mutexes(parts: &Parts) -> bool
+fn has_more_mutexes(parts: &Tables<'_>) -> bool
     ensures { result ≡ nat_lt most_mutexes (length parts.now.mutexes) }
 {
-    MAX_MUTEXES < parts.mutexes.items().len()
+    MAX_MUTEXES < parts.mutexes()
 }
 
 /// The first limit that the text passes, before any code is made.
 pub fn passed_before(
     alloc: Global,
-    items: &[Item],
-    parts: &Parts,
+    items: &Functions<'_>,
+    parts: &Tables<'_>,
     functions: &[Ident],
 ) -> Result<Option<Limit>, NoMemory>
     ensures { IfOk result (λ l. l ≡ passed_before items.now parts.now functions.now) }
@@ -251,7 +258,12 @@ pub fn passed_before(
 }
 
 /// The first limit that is passed behind the instructions.
-pub fn passed_behind(side: Side, items: &[Item], parts: &Parts, threads: &[Thread]) -> Option<Limit>
+pub fn passed_behind(
+    side: Side,
+    items: &[Item],
+    parts: &Tables<'_>,
+    threads: &[Thread],
+) -> Option<Limit>
     ensures { result ≡ passed_behind side items.now parts.now threads.now }
 {
     if has_more_locals(most_locals(side), threads) {

@@ -2,7 +2,7 @@
 ghost use Rattle.std.specs.Prelude.{◌≡◌, ◌+◌, ◌<◌, ◌≤◌, ◌∷◌, ◌++◌, [], Some, None, length, map, IfErr, IfOk, OnOk};
 ghost use Rattle.mm_goto.specs.Valid.{IsValid};
 ghost use Rattle.mm_flow.specs.Flow.{size};
-ghost use Rattle.mm_flow.specs.Programs.{flow_of, limit_passed, program_of, size_in, thread_code, thread_of, threads_in, threads_of};
+ghost use Rattle.mm_flow.specs.Programs.{flow_of, limit_passed, named_function, program_of, size_in, thread_code, thread_of, threads_in, threads_of};
 ghost use Rattle.mm_flow.specs.reading.Assembling.{WhenFull};
 ghost use Rattle.mm_flat.specs.reading.Refusal.{WhenTooMany, passed_behind, passed_within};
 ghost use Rattle.mm_flat.specs.reading.Threading.{body_made, listing};
@@ -17,8 +17,9 @@ use mm_flow::context::Context;
 use mm_flow::fault::{FlatFault, Limit, Stop};
 use mm_flow::mentions::labels_in;
 use mm_flow::names::Parts;
+use mm_flow::tables::{Functions, Labels, Tables};
 use mm_goto::{Ident, Instr, NoMemory, Program, Thread};
-use mm_tree::{Item, Side, Tree};
+use mm_tree::{Side, Tree};
 use std::alloc::Global;
 
 /// How deep the functions that make the code may call each other.
@@ -30,8 +31,8 @@ const MAIN: &str = "main";
 /// The code of a thread's body, which may have so many instructions.
 fn body(
     alloc: Global,
-    parts: &Parts,
-    items: &[Item],
+    parts: &Tables<'_>,
+    items: &Functions<'_>,
     limit: usize,
     function: &Function<'_>,
 ) -> Result<Assembler, Stop>
@@ -43,8 +44,9 @@ fn body(
     let Some(base) = home.checked_add(1) else {
         return Err(Stop::NoMemory);
     };
-    let labels = labels_in(alloc, function.body)?;
-    code.reserve(&labels)?;
+    let own = labels_in(alloc, function.body)?;
+    code.reserve(&own)?;
+    let labels = Labels::new(alloc, &own)?;
     let context = Context {
         parts,
         items,
@@ -64,11 +66,25 @@ fn body(
     Ok(code)
 }
 
+/// The function of a name, and one without statements where there is none: such a name is refused before.
+fn named_function<'a>(parts: &Tables<'_>, items: &Functions<'a>, f: &Ident) -> Function<'a>
+    ensures { result ≡ named_function parts.now items.now f.now }
+{
+    match function_of(items, parts.asserts(), f) {
+        Some(function) => function,
+        None => Function {
+            params: &[],
+            body: &[],
+            asserts: 0,
+        },
+    }
+}
+
 /// The thread of a function, which may have so many instructions.
 fn thread(
     alloc: Global,
-    parts: &Parts,
-    items: &[Item],
+    parts: &Tables<'_>,
+    items: &Functions<'_>,
     limit: usize,
     f: &Ident,
 ) -> Result<Thread, Stop>
@@ -77,11 +93,9 @@ fn thread(
     ensures room { OnOk result (size (flow_of parts.now items.now f.now) ≤ limit) }
     ensures full { IfErr result (λ e. WhenFull e (limit < size (flow_of parts.now items.now f.now))) }
 {
-    let Some(function) = function_of(items, parts.asserts.items(), f) else {
-        return Err(Stop::NoMemory);
-    };
+    let function = named_function(parts, items, f);
     let mut code = body(alloc, parts, items, limit, &function)?;
-    code.put(Piece::Do(place_in(items, f.text()), Instr::End))?;
+    code.put(Piece::Do(place_in(items.items(), f.text()), Instr::End))?;
     if limit < code.len() {
         return Err(Stop::Full);
     }
@@ -91,8 +105,8 @@ fn thread(
 /// The threads of the functions, which may have so many instructions.
 fn threads(
     alloc: Global,
-    parts: &Parts,
-    items: &[Item],
+    parts: &Tables<'_>,
+    items: &Functions<'_>,
     limit: usize,
     functions: &[Ident],
 ) -> Result<Vec<Thread>, Stop>
@@ -133,8 +147,8 @@ fn threads_in(alloc: Global, parts: &Parts) -> Result<Vec<Ident>, NoMemory>
 /// The program of the threads, where no limit is passed behind their instructions.
 fn within_limits(
     alloc: Global,
-    parts: &Parts,
-    items: &[Item],
+    parts: &Tables<'_>,
+    items: &Functions<'_>,
     side: Side,
     threads: Vec<Thread>,
 ) -> Result<Program, FlatFault>
@@ -143,19 +157,19 @@ fn within_limits(
     ensures within { OnOk result (passed_behind side items.now parts.now threads.items ≡ None) }
     ensures too_many { IfErr result (λ e. WhenTooMany e (λ l. passed_behind side items.now parts.now threads.items ≡ Some l)) }
 {
-    if let Some(limit) = passed_behind(side, items, parts, &threads) {
+    if let Some(limit) = passed_behind(side, items.items(), parts, &threads) {
         return Err(FlatFault::TooMany(limit));
     }
-    let cells = cells_of(alloc, parts.spots.items(), items)?;
-    let mutexes = mutexes_in(alloc, items)?;
+    let cells = cells_of(alloc, parts, items.items())?;
+    let mutexes = mutexes_in(alloc, items.items())?;
     Ok(Program::new(cells, mutexes, threads))
 }
 
 /// The program of the threads of the functions, where no limit is passed from their instructions on.
 fn within_instructions(
     alloc: Global,
-    parts: &Parts,
-    items: &[Item],
+    parts: &Tables<'_>,
+    items: &Functions<'_>,
     side: Side,
     functions: &[Ident],
 ) -> Result<Program, FlatFault>
@@ -182,8 +196,10 @@ pub fn flatten(alloc: Global, tree: &Tree, side: Side) -> Result<Program, FlatFa
     let items = tree.items.items();
     let parts = parts_of(alloc, items, side)?;
     let functions = threads_in(alloc, &parts)?;
-    match passed_before(alloc, items, &parts, &functions)? {
+    let tables = Tables::new(alloc, &parts)?;
+    let places = Functions::new(alloc, items)?;
+    match passed_before(alloc, &places, &tables, &functions)? {
         Some(limit) => Err(FlatFault::TooMany(limit)),
-        None => within_instructions(alloc, &parts, items, side, &functions),
+        None => within_instructions(alloc, &tables, &places, side, &functions),
     }
 }

@@ -1,15 +1,16 @@
 //! Functions, and what stands before the body of one that is called.
-ghost use Rattle.std.specs.Prelude.{◌≡◌, ◌+◌, length, IfOk, OnOk, IfSome, Some};
+ghost use Rattle.std.specs.Prelude.{◌≡◌, ◌+◌, length, slice_get, IfOk, OnOk, IfNone, IfSome, None, Some};
 ghost use Rattle.mm_flow.specs.Statements.{as_function, bound, function_of, input, is_function, is_input, sets};
 ghost use Rattle.mm_flow.specs.reading.Assembling.{count, valued, with_flow};
 ghost use Rattle.mm_flow.specs.Flow.{size};
-ghost use Rattle.mm_flat_stmt.specs.reading.Bodies.{entered, entry_size};
+ghost use Rattle.mm_flat_stmt.specs.reading.Bodies.{entered, entry_size, function_at};
 
 use mm_flow::assembler::{Assembler, Piece};
 use mm_flow::checks::set;
 use mm_flow::context::Context;
 use mm_flow::expressions::exprs;
-use mm_flow::names::Named;
+use mm_flow::locals::Locals;
+use mm_flow::tables::Functions;
 use mm_flow::words::{constant, copy, the_local};
 use mm_goto::{At, Ident, Instr, NoMemory, Pure};
 use mm_tree::{Expr, Item, Param, Stmt};
@@ -50,7 +51,8 @@ pub fn is_function(item: &Item, f: &str) -> bool
 }
 
 fn as_function<'a>(item: &'a Item, asserts: u32) -> Option<Function<'a>>
-    ensures { IfSome result (λ g. as_function item.now asserts ≡ Some g) }
+    ensures some { IfSome result (λ g. as_function item.now asserts ≡ Some g) }
+    ensures none { IfNone result (as_function item.now asserts ≡ None) }
 {
     match item {
         Item::Function { params, body, .. } => Some(Function {
@@ -63,18 +65,28 @@ fn as_function<'a>(item: &'a Item, asserts: u32) -> Option<Function<'a>>
 }
 
 /// The function of a name, where so many assertions stand before each item.
-pub fn function_of<'a>(items: &'a [Item], asserts: &[u32], f: &Ident) -> Option<Function<'a>>
-    ensures { IfSome result (λ g. function_of items.now asserts.now f.now ≡ Some g) }
+pub fn function_of<'a>(items: &Functions<'a>, asserts: &[u32], f: &Ident) -> Option<Function<'a>>
+    ensures some { IfSome result (λ g. function_of items.now asserts.now f.now ≡ Some g) }
+    ensures none { IfNone result (function_of items.now asserts.now f.now ≡ None) }
 {
-    for (i, item) in items.iter().enumerate() {
-        if i >= asserts.len() {
-            return None;
-        }
-        if is_function(item, f.text()) {
-            return as_function(item, asserts[i]);
-        }
+    match items.place_of(f.text()) {
+        Some(i) => function_at(items.items(), asserts, i),
+        None => None,
     }
-    None
+}
+
+/// The function that is an item.
+fn function_at<'a>(items: &'a [Item], asserts: &[u32], i: usize) -> Option<Function<'a>>
+    ensures some { IfSome result (λ g. function_at (slice_get items.now i) (slice_get asserts.now i) ≡ Some g) }
+    ensures none { IfNone result (function_at (slice_get items.now i) (slice_get asserts.now i) ≡ None) }
+{
+    match items.get(i) {
+        Some(item) => match asserts.get(i) {
+            Some(asserts) => as_function(item, *asserts),
+            None => None,
+        },
+        None => None,
+    }
 }
 
 /// Whether the name is of a function that gives any int.
@@ -100,16 +112,13 @@ pub fn input(
 }
 
 /// The names of the parameters, whose locals are from this one on.
-pub fn bind(alloc: Global, params: &[Param], first: u32) -> Result<Vec<Named>, NoMemory>
-    ensures { IfOk result (λ names. names.items ≡ bound params.now first) }
+pub fn bind(alloc: Global, params: &[Param], first: u32) -> Result<Locals, NoMemory>
+    ensures { IfOk result (λ names. names ≡ bound params.now first) }
 {
-    let mut names = Vec::new(alloc);
+    let mut names = Locals::new(alloc);
     let mut number = first;
     for param in params {
-        names.push(Named {
-            name: Ident::copy_of(alloc, param.name.name.text())?,
-            number,
-        })?;
+        names.push(alloc, &param.name.name, number)?;
         match number.checked_add(1) {
             Some(next) => number = next,
             None => return Err(NoMemory),

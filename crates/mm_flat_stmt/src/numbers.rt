@@ -1,5 +1,5 @@
 //! The numbers of labels, assertions, mutexes and threads.
-ghost use Rattle.std.specs.Prelude.{◌≡◌, ◌+◌, drop, if◌then◌else◌, Some, IfOk, IfSome};
+ghost use Rattle.std.specs.Prelude.{◌≡◌, ◌+◌, drop, if◌then◌else◌, Some, IfOk};
 ghost use Rattle.std.specs.Str.{bytes_eq};
 ghost use Rattle.std.specs.List.{fold};
 ghost use Rattle.mm_flow.specs.Scopes.{index_of, thread_in};
@@ -7,20 +7,24 @@ ghost use Rattle.mm_flow.specs.Statements.{assert_number, digit_step, or_0, stat
 ghost use Rattle.mm_flow.specs.reading.Emission.{label_of};
 
 use mm_flow::context::Context;
-use mm_flow::names::{Parts, Started, index_of};
+use mm_flow::names::Started;
+use mm_flow::tables::Tables;
 use mm_goto::{Ident, NoMemory};
 use mm_tree::{Side, Word};
 
-/// The label of a name.
-pub fn label_of(context: &Context<'_>, x: &Ident) -> Option<u32>
-    ensures { IfSome result (λ l. label_of context.now.labels context.now.exits x.now ≡ Some l) }
+/// The label of a name, and none where the body's text has no such label: such a name is refused before.
+pub fn label_of(context: &Context<'_>, x: &Ident) -> Result<Option<u32>, NoMemory>
+    ensures { IfOk result (λ l. l ≡ label_of context.now.labels context.now.exits x.now) }
 {
-    match index_of(context.labels, x) {
-        Some(i) => match u32::try_from(i) {
-            Ok(i) => context.exits.base.checked_add(i),
-            Err(_) => None,
-        },
-        None => None,
+    let Some(i) = context.labels.place_of(x) else {
+        return Ok(None);
+    };
+    let Ok(i) = u32::try_from(i) else {
+        return Err(NoMemory);
+    };
+    match context.exits.base.checked_add(i) {
+        Some(label) => Ok(Some(label)),
+        None => Err(NoMemory),
     }
 }
 
@@ -76,20 +80,21 @@ pub fn assert_number(side: Side, before: u32, text: &Option<Ident>) -> Result<u3
     }
 }
 
-/// The number of a mutex.
-pub fn mutex(parts: &Parts, x: &Word) -> Result<u32, NoMemory>
+/// The number of a mutex, and 0 where there is no such mutex: such a name is refused before.
+pub fn mutex(parts: &Tables<'_>, x: &Word) -> Result<u32, NoMemory>
     ensures { IfOk result (λ m. m ≡ or_0 (index_of parts.now.mutexes x.now.name)) }
 {
-    match index_of(parts.mutexes.items(), &x.name) {
+    match parts.mutex(&x.name) {
         Some(m) => match u32::try_from(m) {
             Ok(m) => Ok(m),
             Err(_) => Err(NoMemory),
         },
-        None => Err(NoMemory),
+        None => Ok(0),
     }
 }
 
-/// The number of the thread that was started last with the variable, among the first creates.
+/// The number of the thread that was started last with the variable, among the first creates, and 0 where there is none: such a
+/// join is refused before. There are at most 15 creates: that more than 16 threads are started is refused before.
 pub fn thread_in(starts: &[Started], count: u32, x: &Ident) -> Result<u32, NoMemory>
     ensures { IfOk result (λ u. u ≡ or_0 (thread_in starts.now count x.now)) }
 {
@@ -107,7 +112,7 @@ pub fn thread_in(starts: &[Started], count: u32, x: &Ident) -> Result<u32, NoMem
     }
     match found {
         Some(u) => Ok(u),
-        None => Err(NoMemory),
+        None => Ok(0),
     }
 }
 

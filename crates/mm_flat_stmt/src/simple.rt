@@ -18,9 +18,9 @@ pub fn mark(context: &Context<'_>, code: &mut Assembler, x: &Ident) -> Result<()
     ensures code { OnOk result (code.new ≡ with_flow context.now (Mark x.now) code.old) }
     ensures count { OnOk result (count code.new ≡ count code.old) }
 {
-    match label_of(context, x) {
+    match label_of(context, x)? {
         Some(l) => code.mark(l),
-        None => Err(NoMemory),
+        None => Ok(()),
     }
 }
 
@@ -28,9 +28,9 @@ pub fn mark(context: &Context<'_>, code: &mut Assembler, x: &Ident) -> Result<()
 fn go_to(context: &Context<'_>, code: &mut Assembler, at: At, x: &Ident) -> Result<(), NoMemory>
     ensures code { OnOk result (code.new ≡ with_flow context.now (Goto at x.now) code.old) }
 {
-    match label_of(context, x) {
+    match label_of(context, x)? {
         Some(l) => code.put(Piece::Jump(at, l)),
-        None => Err(NoMemory),
+        None => code.put(Piece::Do(at, Instr::Jump(0))),
     }
 }
 
@@ -81,7 +81,7 @@ fn one(alloc: Global, context: &Context<'_>, code: &mut Assembler, s: &Stmt) -> 
         }
         StmtNode::Start(_, _) => create(context, code, s.at),
         StmtNode::Join(x) => {
-            let thread = thread_in(context.parts.starts.items(), code.seen().starts, &x.name)?;
+            let thread = thread_in(context.parts.starts(), code.seen().starts, &x.name)?;
             code.put(Piece::Do(s.at, Instr::Join(thread)))
         }
         StmtNode::Goto(x) => go_to(context, code, s.at, &x.name),

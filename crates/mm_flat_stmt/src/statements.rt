@@ -4,7 +4,7 @@ ghost use Rattle.std.specs.Prelude.{◌≡◌, ◌+◌, ◌<◌, length, take, m
 ghost use Rattle.mm_flow.specs.Flow.{size};
 ghost use Rattle.mm_flow.specs.Statements.{assigned, assigned_to, body_code, call_value, called, choice_code, declared, declared_one, do_code, first_value, for_code, if_code, if_or_choice, in_order, inner, is_input, labelled, optional, returned, stmt_code, turns, while_code};
 ghost use Rattle.mm_flow.specs.reading.Assembling.{count, doing, done, valued, within, WhenFull};
-ghost use Rattle.mm_flat_stmt.specs.reading.Bodies.{inlined, value_at};
+ghost use Rattle.mm_flat_stmt.specs.reading.Bodies.{inlined, inlined_with, value_at};
 
 use crate::calls::{Function, begin, bind, function_of, input, is_input};
 use crate::simple::{mark, simple};
@@ -14,8 +14,9 @@ use mm_flow::checks::{begin_choice, between, branch, set};
 use mm_flow::context::Context;
 use mm_flow::fault::Stop;
 use mm_flow::lefts::{compare_swap, fetch_add, left_aim, local_left, store};
+use mm_flow::locals::Locals;
 use mm_flow::mentions::labels_in;
-use mm_flow::names::Named;
+use mm_flow::tables::Labels;
 use mm_flow::words::{constant, the_local};
 use mm_goto::{At, Ident, Pure};
 use mm_tree::{Expr, Left, Local, Stmt, StmtNode, Value};
@@ -79,9 +80,9 @@ fn call_value(
     if is_input(f) {
         return Ok(input(alloc, context, code, at)?);
     }
-    match function_of(context.items, context.parts.asserts.items(), f) {
+    match function_of(context.items, context.parts.asserts(), f) {
         Some(function) => call(alloc, context, code, room, at, &function, es),
-        None => Err(Stop::NoMemory),
+        None => Ok(constant(alloc, 0)?),
     }
 }
 
@@ -112,19 +113,45 @@ fn call(
 
 /// The code of a called function's body.
 #[cycle(flatten)]
-#[tactic(auto, using(crate::proofs::Inlining::inline_at_is, mm_flow::proofs::Grows::reserved_pieces))]
 fn inline(
     alloc: Global,
     context: &Context<'_>,
     code: &mut Assembler,
     room: u32,
     function: &Function<'_>,
-    bound: Vec<Named>,
+    mut bound: Locals,
     ret: u32,
 ) -> Result<(), Stop>
-    ensures code { OnOk result (code.new ≡ valued context.now (inlined context.now function.now bound.items ret code.old) code.old) }
-    ensures count { OnOk result (count code.new ≡ count code.old + size (inlined context.now function.now bound.items ret code.old).flow) }
-    ensures full { IfErr result (λ e. WhenFull e (context.now.limit < count code.old + size (inlined context.now function.now bound.items ret code.old).flow)) }
+    ensures code { OnOk result (code.new ≡ valued context.now (inlined context.now function.now bound ret code.old) code.old) }
+    ensures count { OnOk result (count code.new ≡ count code.old + size (inlined context.now function.now bound ret code.old).flow) }
+    ensures full { IfErr result (λ e. WhenFull e (context.now.limit < count code.old + size (inlined context.now function.now bound ret code.old).flow)) }
+{
+    let Some(room) = room.checked_sub(1) else {
+        return Err(Stop::NoMemory);
+    };
+    let own = labels_in(alloc, function.body)?;
+    let labels = Labels::new(alloc, &own)?;
+    inline_with(
+        alloc, context, code, room, function, &labels, &mut bound, ret,
+    )
+}
+
+/// The code of a called function's body, with its labels.
+#[cycle(flatten)]
+#[tactic(auto, using(crate::proofs::Inlining::inline_at_is, mm_flow::proofs::Grows::reserved_pieces))]
+fn inline_with(
+    alloc: Global,
+    context: &Context<'_>,
+    code: &mut Assembler,
+    room: u32,
+    function: &Function<'_>,
+    labels: &Labels<'_>,
+    bound: &mut Locals,
+    ret: u32,
+) -> Result<(), Stop>
+    ensures code { OnOk result (code.new ≡ valued context.now (inlined_with context.now function.now labels.now bound.old ret code.old) code.old) }
+    ensures count { OnOk result (count code.new ≡ count code.old + size (inlined_with context.now function.now labels.now bound.old ret code.old).flow) }
+    ensures full { IfErr result (λ e. WhenFull e (context.now.limit < count code.old + size (inlined_with context.now function.now labels.now bound.old ret code.old).flow)) }
 {
     let Some(room) = room.checked_sub(1) else {
         return Err(Stop::NoMemory);
@@ -136,12 +163,11 @@ fn inline(
     let Some(base) = home.checked_add(1) else {
         return Err(Stop::NoMemory);
     };
-    let own = labels_in(alloc, function.body)?;
-    code.reserve(&own)?;
+    code.reserve(labels.names())?;
     let body = Context {
         parts: context.parts,
         items: context.items,
-        labels: &own,
+        labels: &*labels,
         exits: Exits {
             behind: context.exits.behind,
             next: context.exits.next,
@@ -153,13 +179,13 @@ fn inline(
         limit: context.limit,
     };
     let seen = code.seen();
-    let outer = code.enter(bound, function.asserts);
+    code.enter(bound, function.asserts);
     match stmts(alloc, &body, code, room, function.body) {
         Ok(()) => {}
         Err(stop) => return Err(stop),
     }
     code.mark(home)?;
-    code.resume(outer, seen);
+    code.resume(bound, seen);
     Ok(())
 }
 
@@ -278,8 +304,7 @@ fn declare_one(
     let v = code.fresh()?;
     let e = first_value(alloc, context, code, room, &l.value)?;
     set(code, l.at, v, e)?;
-    let name = Ident::copy_of(alloc, l.name.text())?;
-    code.bind(name, v)?;
+    code.bind(alloc, &l.name, v)?;
     Ok(())
 }
 

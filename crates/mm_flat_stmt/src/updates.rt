@@ -94,7 +94,7 @@ pub fn assertion(
     ensures code { OnOk result (code.new ≡ done context.now (doing context.now (λ w k. asserted w at e.now text.now k) code.old) code.old) }
 {
     let e = expr(alloc, context, code, e)?;
-    let n = assert_number(context.parts.side, code.seen().asserts, text)?;
+    let n = assert_number(context.parts.side(), code.seen().asserts, text)?;
     code.put(Piece::Do(at, Instr::Assert(e.into_inner(), n)))?;
     code.pass_assertion()
 }

@@ -1,3 +1,4 @@
 pub mod Emission
 pub mod Assembling
 pub mod Settling
+pub mod Finding

@@ -2,7 +2,8 @@ ghost use Rattle.std.specs.Prelude.{◌≡◌, ◌+◌, ◌++◌, ◌∷◌, IfO
 ghost use Rattle.mm_flow.specs.Scopes.{local_of, named};
 ghost use Rattle.mm_flow.specs.reading.Assembling.{count, with_label, with_labels, with_locals, with_mark, with_names, with_piece, with_seen};
 
-use crate::names::{Named, Seen, local_of};
+use crate::locals::Locals;
+use crate::names::Seen;
 use mm_goto::{At, Ident, Instr, NoMemory, Pure};
 use std::alloc::Global;
 use std::marker::Model;
@@ -30,7 +31,7 @@ pub enum Piece {
 pub struct Assembler {
     pieces: Vec<Piece>,
     marks: Vec<u32>,
-    names: Vec<Named>,
+    names: Locals,
     next: u32,
     seen: Seen,
 }
@@ -44,7 +45,7 @@ impl Model for Assembler {
 
     ghost coded = { Prim.hlevel (codes, pure.the_row.coded) };
 
-    ghost view = { λ a. record { known = record { names = a.names.items; next = a.next; seen = a.seen }; made = record { pieces = a.pieces.items; marks = a.marks.items } } };
+    ghost view = { λ a. record { known = record { names = a.names; next = a.next; seen = a.seen }; made = record { pieces = a.pieces.items; marks = a.marks.items } } };
 }
 
 impl Assembler {
@@ -55,7 +56,7 @@ impl Assembler {
         Assembler {
             pieces: Vec::new(alloc),
             marks: Vec::new(alloc),
-            names: Vec::new(alloc),
+            names: Locals::new(alloc),
             next: 0,
             seen: Seen { asserts, starts: 0 },
         }
@@ -86,7 +87,7 @@ impl Assembler {
     pub fn local(&self, x: &Ident) -> Option<u32>
         ensures { result ≡ local_of self.now.known.names x.now }
     {
-        local_of(&self.names, x)
+        self.names.local(x)
     }
 
     /// How many locals have names.
@@ -135,10 +136,9 @@ impl Assembler {
             return Err(NoMemory);
         };
         let label = label as usize;
-        if label >= self.marks.len() {
-            return Err(NoMemory);
+        if label < self.marks.len() {
+            self.marks[label] = place;
         }
-        self.marks[label] = place;
         Ok(())
     }
 
@@ -174,14 +174,10 @@ impl Assembler {
     }
 
     /// The name of a local.
-    pub fn bind(&mut self, name: Ident, local: u32) -> Result<(), NoMemory>
-        ensures code { OnOk result (self.new ≡ with_names (self.old.known.names ++ named name local ∷ []) self.old) }
+    pub fn bind(&mut self, alloc: Global, name: &Ident, local: u32) -> Result<(), NoMemory>
+        ensures code { OnOk result (self.new ≡ with_names (self.old.known.names ++ named name.now local ∷ []) self.old) }
     {
-        self.names.push(Named {
-            name,
-            number: local,
-        })?;
-        Ok(())
+        self.names.push(alloc, name, local)
     }
 
     /// The names that were known before, so many, alone are known.
@@ -218,21 +214,20 @@ impl Assembler {
         }
     }
 
-    /// A body with names of its own begins, behind so many assertions. It gives the names that were known.
-    pub fn enter(&mut self, names: Vec<Named>, asserts: u32) -> Vec<Named>
-        ensures names { result.items ≡ self.old.known.names }
-        ensures code { self.new ≡ with_seen (record { asserts = asserts; starts = 0 }) (with_names names.items self.old) }
+    /// A body with names of its own begins, behind so many assertions. The names that were known are kept in their place.
+    pub fn enter(&mut self, names: &mut Locals, asserts: u32)
+        ensures names { names.new ≡ self.old.known.names }
+        ensures code { self.new ≡ with_seen (record { asserts = asserts; starts = 0 }) (with_names names.old self.old) }
     {
-        let outer = std::mem::replace(&mut self.names, names);
+        std::mem::swap(&mut self.names, names);
         self.seen = Seen { asserts, starts: 0 };
-        outer
     }
 
     /// The body has ended: what was known before it is known again.
-    pub fn resume(&mut self, names: Vec<Named>, seen: Seen)
-        ensures code { self.new ≡ with_seen seen (with_names names.items self.old) }
+    pub fn resume(&mut self, names: &mut Locals, seen: Seen)
+        ensures code { self.new ≡ with_seen seen (with_names names.old self.old) }
     {
-        self.names = names;
+        std::mem::swap(&mut self.names, names);
         self.seen = seen;
     }
 

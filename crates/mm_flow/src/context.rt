@@ -2,18 +2,16 @@ ghost use Rattle.std.specs.Prelude.{◌≡◌};
 ghost use Rattle.mm_flow.specs.reading.Assembling.{inside};
 
 use crate::assembler::Exits;
-use crate::names::Parts;
-use mm_goto::Ident;
-use mm_tree::Item;
+use crate::tables::{Functions, Labels, Tables};
 use std::marker::Model;
 
 /// What code stands in.
 #[derive(Drop)]
 pub struct Context<'a> {
-    pub parts: &'a Parts,
-    pub items: &'a [Item],
+    pub parts: &'a Tables<'a>,
+    pub items: &'a Functions<'a>,
     /// The labels of the body's text.
-    pub labels: &'a [Ident],
+    pub labels: &'a Labels<'a>,
     pub exits: Exits,
     /// The local for what the function returns.
     pub ret: Option<u32>,

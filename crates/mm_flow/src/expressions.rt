@@ -10,7 +10,7 @@ use crate::checks::{
     load_behind, load_cell, load_element, set,
 };
 use crate::context::Context;
-use crate::names::{Joining, spot_of};
+use crate::names::Joining;
 use crate::words::{address, applied, chosen, combined, constant, the_local};
 use mm_goto::{At, Binary, Ident, NoMemory, Pure, Unary};
 use mm_tree::{Expr, Node};
@@ -82,10 +82,7 @@ fn name(
 {
     match code.local(x) {
         Some(l) => the_local(alloc, l),
-        None => match spot_of(context.parts.spots.items(), x) {
-            Some(s) => load_cell(alloc, code, at, s.first),
-            None => Err(NoMemory),
-        },
+        None => load_cell(alloc, code, at, context.parts.cells(x).first),
     }
 }
 
@@ -104,28 +101,21 @@ pub fn expr(
         Node::Number(z) => constant(alloc, *z),
         Node::Null => constant(alloc, 0),
         Node::Name(x) => name(alloc, context, code, e.at, x),
-        Node::Index(x, i) => match spot_of(context.parts.spots.items(), x) {
-            Some(s) => {
-                let i = expr(alloc, context, code, i.get())?;
-                load_element(alloc, code, e.at, s.first, s.len, i)
-            }
-            None => Err(NoMemory),
-        },
+        Node::Index(x, i) => {
+            let cells = context.parts.cells(x);
+            let i = expr(alloc, context, code, i.get())?;
+            load_element(alloc, code, e.at, cells.first, cells.len, i)
+        }
         Node::Deref(p) => {
             let p = expr(alloc, context, code, p.get())?;
             load_behind(alloc, code, e.at, p)
         }
-        Node::AddrName(x) => match spot_of(context.parts.spots.items(), &x.name) {
-            Some(s) => address(alloc, s.first),
-            None => Err(NoMemory),
-        },
-        Node::AddrIndex(x, i) => match spot_of(context.parts.spots.items(), &x.name) {
-            Some(s) => {
-                let i = expr(alloc, context, code, i.get())?;
-                element_at(alloc, code, e.at, s.first, s.len, i)
-            }
-            None => Err(NoMemory),
-        },
+        Node::AddrName(x) => address(alloc, context.parts.cells(&x.name).first),
+        Node::AddrIndex(x, i) => {
+            let cells = context.parts.cells(&x.name);
+            let i = expr(alloc, context, code, i.get())?;
+            element_at(alloc, code, e.at, cells.first, cells.len, i)
+        }
         Node::Un(op, a) => {
             let a = expr(alloc, context, code, a.get())?;
             applied(alloc, *op, a)

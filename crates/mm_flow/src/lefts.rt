@@ -12,7 +12,6 @@ use crate::assembler::{Assembler, Piece};
 use crate::checks::{check_division, check_index, check_value, set};
 use crate::context::Context;
 use crate::expressions::expr;
-use crate::names::spot_of;
 use crate::words::{combined, copy_target, the_local};
 use mm_goto::{At, Binary, Ident, Instr, NoMemory, Pure, Target};
 use mm_tree::{Expr, Left, LeftNode, Node};
@@ -23,10 +22,8 @@ use std::alloc::Global;
 fn aim_cell(alloc: Global, context: &Context<'_>, x: &Ident) -> Result<Boxed<Target>, NoMemory>
     ensures { IfOk result (λ t. t ≡ target.Cell (the_spot (spot_of context.now.parts.spots x.now)).first) }
 {
-    match spot_of(context.parts.spots.items(), x) {
-        Some(s) => Ok(Boxed::new(alloc, Target::Cell(s.first))?),
-        None => Err(NoMemory),
-    }
+    let cells = context.parts.cells(x);
+    Ok(Boxed::new(alloc, Target::Cell(cells.first))?)
 }
 
 /// An element, whose index is checked.
@@ -41,20 +38,16 @@ fn aim_element(
     ensures target { IfOk result (λ t. t ≡ (indexed at (the_spot (spot_of context.now.parts.spots x.now)) (read context.now code.old i.now)).target) }
     ensures code { OnOk result (code.new ≡ aimed context.now (indexed at (the_spot (spot_of context.now.parts.spots x.now)) (read context.now code.old i.now)) code.old) }
 {
-    match spot_of(context.parts.spots.items(), x) {
-        Some(s) => {
-            let index = expr(alloc, context, code, i)?;
-            check_index(alloc, code, at, s.len, index.get())?;
-            let index = index.into_inner();
-            let target = Target::Elem {
-                first: s.first,
-                len: s.len,
-                index,
-            };
-            Ok(Boxed::new(alloc, target)?)
-        }
-        None => Err(NoMemory),
-    }
+    let cells = context.parts.cells(x);
+    let index = expr(alloc, context, code, i)?;
+    check_index(alloc, code, at, cells.len, index.get())?;
+    let index = index.into_inner();
+    let target = Target::Elem {
+        first: cells.first,
+        len: cells.len,
+        index,
+    };
+    Ok(Boxed::new(alloc, target)?)
 }
 
 /// What a pointer leads to, which is checked.

@@ -1,6 +1,3 @@
-ghost use Rattle.std.specs.Prelude.{◌≡◌, IfSome, Some};
-ghost use Rattle.mm_flow.specs.Scopes.{index_of, local_of, spot_of};
-
 use mm_goto::{Ident, List};
 use mm_tree::Side;
 
@@ -15,6 +12,13 @@ pub struct Named {
 #[derive(Drop)]
 pub struct Spot {
     pub name: Ident,
+    pub first: u32,
+    pub len: u32,
+}
+
+/// The cells of a global: the number of the first, and how many there are.
+#[derive(Clone, Copy)]
+pub struct Cells {
     pub first: u32,
     pub len: u32,
 }
@@ -56,34 +60,4 @@ pub struct Parts {
     pub starts: List<Started>,
     /// For each item, how many assertions stand in those before it.
     pub asserts: List<u32>,
-}
-
-/// The local of a name: the innermost where there are several.
-pub fn local_of(names: &[Named], x: &Ident) -> Option<u32>
-    ensures { result ≡ local_of names.now x.now }
-{
-    names
-        .iter()
-        .rev()
-        .find(|n| n.name.text() == x.text())
-        .map(|n| n.number)
-}
-
-/// The global of a name.
-pub fn spot_of<'a>(spots: &'a [Spot], x: &Ident) -> Option<&'a Spot>
-    ensures { IfSome result (λ s. spot_of spots.now x.now ≡ Some s.now) }
-{
-    for spot in spots {
-        if spot.name.text() == x.text() {
-            return Some(spot);
-        }
-    }
-    None
-}
-
-/// Where a name stands among others.
-pub fn index_of(names: &[Ident], x: &Ident) -> Option<usize>
-    ensures { result ≡ index_of names.now x.now }
-{
-    names.iter().position(|y| y.text() == x.text())
 }

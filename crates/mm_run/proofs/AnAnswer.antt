@@ -2,7 +2,8 @@
 use Rattle.std.proofs.Common.{◌≡◌, ◌⊎◌, inl, inr, ⊎_elim, ℕ, zero, suc, ◌+◌, ◌<◌, ◌≤◌, Bool, true, false, List, [], ◌∷◌, ◌++◌, length, take, drop, map, codes, Option, Some, None, option_and_then, refl, sym, ◌∙◌, ap, subst, arith, append_assoc, length-append, IsUtf8}
 use Rattle.std.specs.Str.{chars, is_utf8}
 use Rattle.std.proofs.lemmas.Bool.{cases_lt}
-use Rattle.std.proofs.lemmas.List.{length-drop, length-take-le, take_all, take-append-drop}
+use Rattle.std.specs.Prelude.{slice_get}
+use Rattle.std.proofs.lemmas.List.{length-drop, length-map, length-take-le, take_all, take-append-drop}
 use Rattle.std.proofs.lemmas.Str.{IsUtf8-from_is_utf8, is_utf8-from_IsUtf8, IsUtf8-nil}
 use Rattle.mm_goto.specs.declared.ident.At.{At}
 use Rattle.mm_goto.specs.declared.model.Model.{Model}
@@ -44,17 +45,20 @@ use Rattle.mm_sched.specs.ScheduleText.{entries_in}
 use Rattle.mm_sched.proofs.ReadingOn.{one_of_them}
 use Rattle.mm_tree.specs.declared.side.Side.TheVariants.{Source}
 use Rattle.mm_flow.specs.declared.fault.Limit.{Limit}
-use Rattle.mm_flow.specs.Programs.{limit_passed, program_of}
+use Rattle.mm_flow.specs.Flow.{Placed, lay}
+use Rattle.mm_flow.specs.Programs.{all_to, end_of, flow_of, laid, limit_passed, locals_of, parts_of, program_of, thread_of, threads_in}
+use Rattle.mm_goto.specs.declared.ident.Ident.{Ident}
+use Rattle.mm_goto.specs.declared.program.Thread.{Thread}
 use Rattle.mm_small.specs.SmallProgram.{IsSmall}
 use Rattle.mm_small.proofs.Deciding.{small_or_not}
 use Rattle.mm_small.proofs.Validity.{listing_valid}
 use Rattle.mm_grammar.specs.Meaning.{IsTreeOf}
 use Rattle.mm_print.specs.SmallText.{small_text}
 use Rattle.mm_run.specs.declared.command.Settings.{Settings}
-use Rattle.mm_run.specs.declared.command.Settings.TheVariants.{Instrument, ReplaySc, Replay}
+use Rattle.mm_run.specs.declared.command.Settings.TheVariants.{Instrument, Cycles, ReplaySc, Replay}
 use Rattle.mm_run.specs.declared.status.Status.{Status}
 use Rattle.mm_run.specs.declared.status.Status.TheVariants.{Done, Refused}
-use Rattle.mm_run.specs.Answer.{AnswersParts, AnswersProgram, AnswersText, AnswersWhole, PrintsWoven, Refusing, Replays}
+use Rattle.mm_run.specs.Answer.{AnswersParts, AnswersProgram, AnswersText, AnswersWhole, PrintsWoven, Refusing, Replays, ReportsCycles}
 use Rattle.mm_names.specs.declared.refusal.NameFault.{NameFault}
 use Rattle.mm_names.specs.declared.refusal.NameFault.TheVariants as name_fault
 use Rattle.mm_names.specs.Programs.{IsAccepted as MakesSense, IsRefused as IsNameFault, no_main, at_fault, refusal_of}
@@ -67,6 +71,7 @@ use Rattle.mm_run.specs.Parts.{IsNotUtf8, IsParting, IsSplit, LacksPart}
 use Rattle.mm_run.specs.Program.{Intake, IsNoProgram, IsProgramText, IsRefused, any, limit_words, run_by, side_for, small_source}
 use Rattle.mm_run.specs.Settings.{IsThere}
 use Rattle.mm_run.proofs.Alike.{is_listing, is_woven}
+use Rattle.mm_run.proofs.AReport.{HasPlaces, an_answer_of_cycles}
 
 -- ---- a text, or where it is none
 
@@ -337,8 +342,28 @@ parts_answer r input = ⊎_elim
     (λ l. (Refused, _, AnswersParts.one_part l))
     (split_or_not input)
 
+-- each instruction that a text is flattened to comes from a place in it
+laid_places : (locals : ℕ) (ps : List Placed) → length (laid locals ps).places ≡ length (laid locals ps).code
+laid_places locals ps = length-map ps (λ (q : Placed). q.at) ∙ sym (length-map ps (λ (q : Placed). q.instr))
+
+has_places : (side : Side) (tree : Tree) → HasPlaces (program_of side tree)
+has_places side tree t thread e = by (threads_in (parts_of side tree.items)) t e
+  where
+    by : (fs : List Ident) (t : ℕ) → slice_get (map (thread_of (parts_of side tree.items) tree.items) fs) t ≡ Some thread → length thread.places ≡ length thread.code
+    by [] zero f = absurd (cc)
+    by [] (suc t) f = absurd (cc)
+    by (g ∷ fs) zero f = let same : thread_of (parts_of side tree.items) tree.items g ≡ thread = cc in subst (λ (x : Thread). length x.places ≡ length x.code) same (laid_places (locals_of (parts_of side tree.items) tree.items g) (lay (all_to (end_of (parts_of side tree.items) tree.items g)) (flow_of (parts_of side tree.items) tree.items g) 0))
+    by (g ∷ fs) (suc t) f = by fs t f
+
+report_answers : (m : Model) (bound : Bounding) (input : List ℕ) → IsAnswered (AnswersProgram (any Source) (ReportsCycles m bound) input)
+report_answers m bound input = ⊎_elim
+    (λ h. let a = an_answer_of_cycles h.0 (subst HasPlaces (sym h.1.flat) (has_places Source h.1.tree)) m bound in (a.0, a.1, AnswersProgram.program h.0 h.1 a.2))
+    (λ h. (Refused, refusal_line h.0 h.1, AnswersProgram.refused (Refusing.refused h.0 h.1 h.2)))
+    (of_any Source input (known Source input))
+
 text_answers : (s : Settings) → IsThere s → (input : List ℕ) → IsAnswered (AnswersText s input)
 text_answers (Instrument m bound) t input = woven_answers m bound t.1.0 input
+text_answers (Cycles m bound) t input = report_answers m bound input
 text_answers ReplaySc t input = parts_answer Sc input
 text_answers (Replay m bound) t input = parts_answer (Buffered m bound) input
 

@@ -9,12 +9,13 @@ use Rattle.mm_sched.specs.declared.entry.Rules.{Rules}
 use Rattle.mm_sched.specs.State.{State}
 use Rattle.mm_sched.specs.ScheduleText.{entries_in}
 use Rattle.mm_run.specs.declared.command.Settings.{Settings}
-use Rattle.mm_run.specs.declared.command.Settings.TheVariants.{Instrument, ReplaySc, Replay}
+use Rattle.mm_run.specs.declared.command.Settings.TheVariants.{Instrument, Cycles, ReplaySc, Replay}
 use Rattle.mm_run.specs.declared.status.Status.{Status}
 use Rattle.mm_run.specs.declared.status.Status.TheVariants.{Done, Words, ReadFault, TooLong, Refused, BadSchedule, Stuck, NotFailing, WriteFault, NoMemory}
-use Rattle.mm_run.specs.Program.{Intake, run_by, small_source}
+use Rattle.mm_tree.specs.declared.side.Side.TheVariants.{Source}
+use Rattle.mm_run.specs.Program.{Intake, any, run_by, small_source}
 use Rattle.mm_run.specs.Outcome.{Outcome, TellsVerdict}
-use Rattle.mm_run.specs.Answer.{AnswersParts, AnswersProgram, AnswersText, AnswersWhole, PrintsWoven, Refusing, Replays, Responds, IsOfInput, Writes, BreaksOff, Ends}
+use Rattle.mm_run.specs.Answer.{AnswersParts, AnswersProgram, AnswersText, AnswersWhole, PrintsWoven, Refusing, Replays, ReportsCycles, Responds, IsOfInput, Writes, BreaksOff, Ends}
 use Rattle.mm_run.specs.Output.{AppendsPart}
 
 -- ---- what is answered is of an input, where what a command gives at the end of its work is
@@ -42,8 +43,18 @@ of_instrument : (m : Model) (bound : Bounding) (input : List ℕ) (status : Stat
 of_instrument m bound input status out (AnswersProgram.refused h) = of_refusal small_source input status out h
 of_instrument m bound input status out (AnswersProgram.program p h w) = of_woven m bound p status out w
 
+of_report : (m : Model) (bound : Bounding) (p : Listing) (status : Status) (out : List ℕ) → ReportsCycles m bound p status out → IsOfInput status
+of_report m bound p status out (ReportsCycles.too_many_sites h) = tt
+of_report m bound p status out (ReportsCycles.too_many_cells h) = tt
+of_report m bound p status out (ReportsCycles.reported head s h r) = tt
+
+of_cycles : (m : Model) (bound : Bounding) (input : List ℕ) (status : Status) (out : List ℕ) → AnswersProgram (any Source) (ReportsCycles m bound) input status out → IsOfInput status
+of_cycles m bound input status out (AnswersProgram.refused h) = of_refusal (any Source) input status out h
+of_cycles m bound input status out (AnswersProgram.program p h r) = of_report m bound p status out r
+
 of_text : (s : Settings) (input : List ℕ) (status : Status) (out : List ℕ) → AnswersText s input status out → IsOfInput status
 of_text (Instrument m bound) input status out h = of_instrument m bound input status out h
+of_text (Cycles m bound) input status out h = of_cycles m bound input status out h
 of_text ReplaySc input status out h = of_parts _ input status out h
 of_text (Replay m bound) input status out h = of_parts _ input status out h
 

@@ -5,17 +5,20 @@ use Rattle.mm_goto.specs.declared.ident.At.{At}
 use Rattle.mm_goto.specs.declared.model.Model.{Model}
 use Rattle.mm_goto.specs.Bounds.{Bounding}
 use Rattle.mm_goto.specs.Listing.{Listing}
-use Rattle.mm_goto.specs.Place.{place_after}
+use Rattle.mm_goto.specs.Place.{place_after, start}
+use Rattle.mm_graph.specs.declared.fault.GraphFault.{GraphFault}
+use Rattle.mm_graph.specs.declared.fault.GraphFault.TheVariants.{TooManySites, TooManyCells}
+use Rattle.mm_graph.specs.Refusals.{IsRefused as IsTooLarge}
 use Rattle.mm_sched.specs.declared.entry.Rules.{Rules}
 use Rattle.mm_run.specs.declared.command.Settings.{Settings}
-use Rattle.mm_run.specs.declared.command.Settings.TheVariants.{Instrument, ReplaySc, Replay}
+use Rattle.mm_run.specs.declared.command.Settings.TheVariants.{Instrument, Cycles, ReplaySc, Replay}
 use Rattle.mm_run.specs.declared.status.Status.{Status}
 use Rattle.mm_run.specs.declared.status.Status.TheVariants.{Done, Refused, TooLong}
 use Rattle.mm_run.specs.Input.{IsWhole, IsTooLong}
 use Rattle.mm_run.specs.Lines.{refusal_line}
 use Rattle.mm_run.specs.Parts.{IsNotUtf8, LacksPart}
 use Rattle.mm_run.specs.Program.{Intake, IsProgramText, IsRefused, run_by, small_source}
-use Rattle.mm_run.specs.Answer.{AnswersInput, AnswersParts, AnswersProgram, AnswersText, AnswersWhole, IsWoven, PrintsWoven, Refusing, Replays, Responds}
+use Rattle.mm_run.specs.Answer.{AnswersInput, AnswersParts, AnswersProgram, AnswersText, AnswersWhole, IsWoven, PrintsWoven, Refusing, Replays, ReportsCycles, Responds}
 
 pub if_ok : {A E : Type 0} (P Q : A → Type 0) (r : Result A E) → IfOk r P → ((a : A) → P a → Q a) → IfOk r Q
 if_ok P Q (Ok a) h f = f a h
@@ -29,17 +32,25 @@ passed_err P (Err e) x h p = subst P (sym h.1) p
 -- what a command gives once it has read its input
 pub responds_input : (s : Settings) (old new : Option (List ℕ)) (status : Status) (out : List ℕ) → AnswersInput s old new status out → Responds s old new status out
 responds_input (Instrument m bound) old new status out h = h
+responds_input (Cycles m bound) old new status out h = h
 responds_input ReplaySc old new status out h = h
 responds_input (Replay m bound) old new status out h = h
 
 pub input_responds : (s : Settings) (old new : Option (List ℕ)) (status : Status) (out : List ℕ) → Responds s old new status out → AnswersInput s old new status out
 input_responds (Instrument m bound) old new status out h = h
+input_responds (Cycles m bound) old new status out h = h
 input_responds ReplaySc old new status out h = h
 input_responds (Replay m bound) old new status out h = h
 
 module _ (status : Status) (out : List ℕ) where
   pub prints_woven : (m : Model) (bound : Bounding) (input : List ℕ) (p : Listing) → IsProgramText small_source input p → IsWoven p m bound out → status ≡ Done → AnswersProgram small_source (PrintsWoven m bound) input status out
   prints_woven m bound input p h w s = rw s (AnswersProgram.program p h (PrintsWoven.done w))
+
+  pub sites_told : (m : Model) (bound : Bounding) (p : Listing) (fault : GraphFault) (at : At) → fault ≡ TooManySites → at ≡ start → status ≡ Refused → out ≡ refusal_line at (codes "too many sites") → IsTooLarge p fault → ReportsCycles m bound p status out
+  sites_told m bound p fault at f e s o h = rw (s, o, e) (ReportsCycles.too_many_sites (subst (IsTooLarge p) f h))
+
+  pub cells_told : (m : Model) (bound : Bounding) (p : Listing) (fault : GraphFault) (at : At) → fault ≡ TooManyCells → at ≡ start → status ≡ Refused → out ≡ refusal_line at (codes "too many shared cells") → IsTooLarge p fault → ReportsCycles m bound p status out
+  cells_told m bound p fault at f e s o h = rw (s, o, e) (ReportsCycles.too_many_cells (subst (IsTooLarge p) f h))
 
   pub no_text : (s : Settings) (input : List ℕ) (at : At) → IsNotUtf8 input at → status ≡ Refused → out ≡ refusal_line at (codes "not UTF-8") → AnswersWhole s input status out
   no_text s input at h t o = rw (t, o) (AnswersWhole.no_text at h)

@@ -1,5 +1,5 @@
 -- An accepted input that is read whole is answered to its end.
-use Rattle.std.proofs.Common.{◌≡◌, ℕ, ◌≤◌, List, ◌∷◌, ◌++◌, length, take, drop, codes, Option, Some, None, IfSome, sym, ap, ◌∙◌, arith, length-append, append-nil, append_assoc, option_and_then, IsUtf8}
+use Rattle.std.proofs.Common.{◌≡◌, ℕ, ◌≤◌, List, ◌∷◌, ◌++◌, length, take, drop, codes, Option, Some, None, IfSome, sym, ap, ◌∙◌, arith, subst, length-append, append-nil, append_assoc, option_and_then, IsUtf8}
 use Rattle.std.specs.Io.KnownBytes.{Consumes, IsAtEnd}
 use Rattle.std.specs.Str.{IsValidUpTo}
 use Rattle.std.proofs.Math.Seq.{drop-append_seam, take-append_seam}
@@ -17,14 +17,18 @@ use Rattle.mm_sched.specs.ScheduleText.{entries_in}
 use Rattle.mm_sched.proofs.Joins.{run-append}
 use Rattle.mm_sched.proofs.ReadingOn.{not_both, one_schedule}
 use Rattle.mm_run.specs.declared.command.Settings.{Settings}
-use Rattle.mm_run.specs.declared.command.Settings.TheVariants.{Instrument, ReplaySc, Replay}
+use Rattle.mm_run.specs.declared.command.Settings.TheVariants.{Instrument, Cycles, ReplaySc, Replay}
 use Rattle.mm_run.specs.declared.status.Status.{Status}
 use Rattle.mm_run.specs.Accepted.{HasParts, IsAccepted, IsRun}
 use Rattle.mm_run.specs.Input.{IsTooLong}
 use Rattle.mm_run.specs.Parts.{IsSplit}
-use Rattle.mm_run.specs.Program.{Intake, IsProgramText, run_by, small_source}
+use Rattle.mm_graph.specs.declared.fault.GraphFault.TheVariants.{TooManySites, TooManyCells}
+use Rattle.mm_graph.specs.Graphs.{IsSmall}
+use Rattle.mm_graph.specs.Refusals.{IsRefused as IsTooLarge}
+use Rattle.mm_tree.specs.declared.side.Side.TheVariants.{Source}
+use Rattle.mm_run.specs.Program.{Intake, IsProgramText, any, run_by, small_source}
 use Rattle.mm_run.specs.Outcome.{IsStuckBehind, Outcome, TellsVerdict}
-use Rattle.mm_run.specs.Answer.{AnswersInput, AnswersParts, AnswersProgram, AnswersText, AnswersWhole, PrintsWoven, Replays, Responds, IsDoneOrKept}
+use Rattle.mm_run.specs.Answer.{AnswersInput, AnswersParts, AnswersProgram, AnswersText, AnswersWhole, PrintsWoven, Replays, ReportsCycles, Responds, IsDoneOrKept}
 use Rattle.mm_run.proofs.Answering.{input_responds}
 use Rattle.mm_run.proofs.Refused.{one_program, not_refused}
 
@@ -99,10 +103,28 @@ instrumented m bound input p h status out (AnswersProgram.program q k w) = print
     printed : (q : Listing) (status : Status) (out : List ℕ) → PrintsWoven m bound q status out → IsDoneOrKept status
     printed q status out (PrintsWoven.done w) = tt
 
+-- ---- the program has a graph
+
+pub small_enough : (p : Listing) → IsSmall p → IsTooLarge p TooManySites → ⊥
+small_enough p s h = omega (arith, s.sites, h)
+
+pub few_enough : (p : Listing) → IsSmall p → IsTooLarge p TooManyCells → ⊥
+few_enough p s h = omega (arith, s.cells, h.1)
+
+analysed : (m : Model) (bound : Bounding) (input : List ℕ) (p : Listing) → IsProgramText (any Source) input p → IsSmall p → (status : Status) (out : List ℕ) → AnswersProgram (any Source) (ReportsCycles m bound) input status out → IsDoneOrKept status
+analysed m bound input p h s status out (AnswersProgram.refused r) = absurd (not_refused (any Source) input p h status out r)
+analysed m bound input p h s status out (AnswersProgram.program q k w) = told q status out w (subst IsSmall (one_program (any Source) input p q h k) s)
+  where
+    told : (q : Listing) (status : Status) (out : List ℕ) → ReportsCycles m bound q status out → IsSmall q → IsDoneOrKept status
+    told q status out (ReportsCycles.too_many_sites n) s = absurd (small_enough q s n)
+    told q status out (ReportsCycles.too_many_cells n) s = absurd (few_enough q s n)
+    told q status out (ReportsCycles.reported head i n r) s = tt
+
 -- ---- the answer
 
 done_text : (s : Settings) (input : List ℕ) (status : Status) (out : List ℕ) → HasParts s input → AnswersText s input status out → IsDoneOrKept status
 done_text (Instrument m bound) input status out h a = instrumented m bound input h.0 h.1 status out a
+done_text (Cycles m bound) input status out h a = analysed m bound input h.0 h.1 h.2 status out a
 done_text ReplaySc input status out h a = parts (run_by Sc) Sc input h status out a
 done_text (Replay m bound) input status out h a = parts (run_by (Buffered m bound)) (Buffered m bound) input h status out a
 

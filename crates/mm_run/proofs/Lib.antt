@@ -1,8 +1,10 @@
 mod AnAnswer
+mod AReport
 mod FromSmall
 mod OneAnswer
 mod OneAnswerCause
 mod OneAnswerSchedule
+mod OneReport
 mod Refused
 pub mod Alike
 pub mod Answered

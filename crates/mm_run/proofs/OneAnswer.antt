@@ -5,19 +5,21 @@ use Rattle.std.proofs.lemmas.Str.{utf8_valid_len-IsValidUpTo}
 use Rattle.mm_goto.specs.declared.ident.At.{At}
 use Rattle.mm_goto.specs.declared.model.Model.{Model}
 use Rattle.mm_goto.specs.Bounds.{Bounding}
+use Rattle.mm_tree.specs.declared.side.Side.TheVariants.{Source}
 use Rattle.mm_goto.specs.Listing.{Listing}
 use Rattle.mm_goto.specs.Place.{place_after}
 use Rattle.mm_sched.specs.declared.entry.Rules.{Rules}
 use Rattle.mm_sched.specs.declared.entry.Rules.TheVariants.{Sc, Buffered}
 use Rattle.mm_run.specs.declared.command.Settings.{Settings}
-use Rattle.mm_run.specs.declared.command.Settings.TheVariants.{Instrument, ReplaySc, Replay}
+use Rattle.mm_run.specs.declared.command.Settings.TheVariants.{Instrument, Cycles, ReplaySc, Replay}
 use Rattle.mm_run.specs.declared.status.Status.{Status}
-use Rattle.mm_run.specs.Answer.{AnswersParts, AnswersProgram, AnswersText, AnswersWhole, PrintsWoven, ProgramAnswer, Refusing, Replays, ScheduleAnswer}
+use Rattle.mm_run.specs.Answer.{AnswersParts, AnswersProgram, AnswersText, AnswersWhole, PrintsWoven, ProgramAnswer, Refusing, Replays, ReportsCycles, ScheduleAnswer}
 use Rattle.mm_run.specs.Lines.{refusal_line}
 use Rattle.mm_run.specs.Parts.{IsNotUtf8, IsSplit}
 use Rattle.mm_run.specs.Outcome.{TellsVerdict}
-use Rattle.mm_run.specs.Program.{Intake, IsProgramText, run_by, small_source}
+use Rattle.mm_run.specs.Program.{Intake, IsProgramText, any, run_by, small_source}
 use Rattle.mm_run.proofs.Completing.{is_text, one_back, one_front}
+use Rattle.mm_run.proofs.OneReport.{one_of_reports}
 use Rattle.mm_run.proofs.Refused.{not_refused, one_program}
 use Rattle.mm_run.proofs.OneAnswerCause.{one_refusing}
 use Rattle.mm_run.proofs.OneAnswerSchedule.{HasOneAnswer, one_outcome}
@@ -68,6 +70,7 @@ module _ (taken : List ℕ → Intake) (Gives : ScheduleAnswer) (one : (p : List
 
 one_text : (s : Settings) (input : List ℕ) (a b : Status) (out text : List ℕ) → AnswersText s input a out → AnswersText s input b text → (a ≡ b) × (out ≡ text)
 one_text (Instrument m bound) input a b out text h k = one_of_program small_source (PrintsWoven m bound) (one_woven m bound) input a b out text h k
+one_text (Cycles m bound) input a b out text h k = one_of_program (any Source) (ReportsCycles m bound) (one_of_reports m bound) input a b out text h k
 one_text ReplaySc input a b out text h k = one_of_parts (run_by Sc) (Replays Sc) (one_replay Sc) input a b out text h k
 one_text (Replay m bound) input a b out text h k = one_of_parts (run_by (Buffered m bound)) (Replays (Buffered m bound)) (one_replay (Buffered m bound)) input a b out text h k
 

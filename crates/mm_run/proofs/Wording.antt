@@ -12,7 +12,7 @@ use Rattle.mm_goto.specs.declared.model.Model.TheVariants.{Tso, Pso}
 use Rattle.mm_goto.specs.Bounds.{IsBound}
 use Rattle.mm_goto.specs.Models.{word_of}
 use Rattle.mm_run.specs.declared.command.Settings.{Settings}
-use Rattle.mm_run.specs.declared.command.Settings.TheVariants.{Instrument, ReplaySc, Replay}
+use Rattle.mm_run.specs.declared.command.Settings.TheVariants.{Instrument, Cycles, ReplaySc, Replay}
 use Rattle.mm_run.specs.Settings.{AskFor, IsThere, words_of}
 use Rattle.mm_run.specs.reading.Words.{bound_of, command_of, model_of, settings_of, with_bound, without_bound, woven_for}
 
@@ -67,9 +67,16 @@ woven_said word Tso k s e b h =
 
 command_said : (word : List ℕ) (m : Model) (k : ℕ) (s : Settings) → IsBound k → command_of word m k ≡ Some s → AskFor (five word m k) s
 command_said word m k s b e =
-    ⊎_elim (λ h. woven_said word m k s (same_word word (codes "instrument") h.0) b h.1) (λ h. replay (only _ (Some (Replay m k)) s h))
+    ⊎_elim (λ h. woven_said word m k s (same_word word (codes "instrument") h.0) b h.1)
+    (λ h. ⊎_elim cycles (λ i. replay (only _ (Some (Replay m k)) s i)) (chosen (bytes_eq word (codes "cycles")) (Some (Cycles m k)) _ s h))
     (chosen (bytes_eq word (codes "instrument")) (woven_for m k) _ s e)
   where
+    cycles : (bytes_eq word (codes "cycles") ≡ true) × (Some (Cycles m k) ≡ Some s) → AskFor (five word m k) s
+    cycles h =
+        let f = h.1 in
+        let same : Cycles m k ≡ s = cc in
+        subst (λ (s : Settings). AskFor (five word m k) s) same (record { there = b; shape = ap (λ w. five w m k) (same_word word (codes "cycles") h.0) })
+
     replay : (bytes_eq word (codes "replay") ≡ true) × (Some (Replay m k) ≡ Some s) → AskFor (five word m k) s
     replay h =
         let f = h.1 in
@@ -128,9 +135,14 @@ replay_read : (m : Model) (k : ℕ) → settings_of (words_of (Replay m k)) ≡ 
 replay_read Tso k = refl
 replay_read Pso k = refl
 
+cycles_read : (m : Model) (k : ℕ) → settings_of (words_of (Cycles m k)) ≡ option_and_then (λ j. Some (Cycles m j)) (bound_of (decimal k))
+cycles_read Tso k = refl
+cycles_read Pso k = refl
+
 shape_read : (s : Settings) → IsThere s → settings_of (words_of s) ≡ Some s
 shape_read (Instrument Tso k) h = ap (λ o. option_and_then (λ j. Some (Instrument Tso j)) o) (bound_read k h.1)
 shape_read (Instrument Pso k) h = let e = h.0 in cc
+shape_read (Cycles m k) h = cycles_read m k ∙ ap (λ o. option_and_then (λ j. Some (Cycles m j)) o) (bound_read k h)
 shape_read ReplaySc h = refl
 shape_read (Replay m k) h = replay_read m k ∙ ap (λ o. option_and_then (λ j. Some (Replay m j)) o) (bound_read k h)
 

@@ -2,6 +2,8 @@
 use Rattle.std.specs.Prelude.{◌≡◌, ℕ, List, Some}
 use Rattle.std.specs.Str.{IsUtf8}
 use Rattle.mm_goto.specs.Listing.{Listing}
+use Rattle.mm_graph.specs.Graphs.{IsSmall}
+use Rattle.mm_tree.specs.declared.side.Side.TheVariants.{Source}
 use Rattle.mm_sched.specs.declared.entry.Rules.{Rules}
 use Rattle.mm_sched.specs.declared.entry.Rules.TheVariants.{Sc, Buffered}
 use Rattle.mm_sched.specs.declared.schedule.Line.{Line}
@@ -9,9 +11,9 @@ use Rattle.mm_sched.specs.State.{State, initial}
 use Rattle.mm_sched.specs.Runs.{run}
 use Rattle.mm_sched.specs.ScheduleText.{IsSchedule, entries_in}
 use Rattle.mm_run.specs.declared.command.Settings.{Settings}
-use Rattle.mm_run.specs.declared.command.Settings.TheVariants.{Instrument, ReplaySc, Replay}
+use Rattle.mm_run.specs.declared.command.Settings.TheVariants.{Instrument, Cycles, ReplaySc, Replay}
 use Rattle.mm_run.specs.Parts.{IsSplit}
-use Rattle.mm_run.specs.Program.{Intake, IsProgramText, run_by, small_source}
+use Rattle.mm_run.specs.Program.{Intake, IsProgramText, any, run_by, small_source}
 
 -- a program and a schedule that is a run of it
 pub record IsRun (taken : List ℕ → Intake) (r : Rules) (input : List ℕ) : Type 0 where
@@ -28,6 +30,7 @@ pub record IsRun (taken : List ℕ → Intake) (r : Rules) (input : List ℕ) : 
 -- the parts of the input are what the command asks for
 abbrev pub HasParts : Settings → List ℕ → Type 0
 HasParts (Instrument m bound) input = (p : Listing) × IsProgramText small_source input p
+HasParts (Cycles m bound) input = (p : Listing) × IsProgramText (any Source) input p × IsSmall p
 HasParts ReplaySc input = IsRun (run_by Sc) Sc input
 HasParts (Replay m bound) input = IsRun (run_by (Buffered m bound)) (Buffered m bound) input
 

@@ -1,27 +1,33 @@
 -- What the tool answers for the words of a command and an input.
-use Rattle.std.specs.Prelude.{◌≡◌, ◌↔◌, ℕ, List, codes, Option}
+use Rattle.std.specs.Prelude.{◌≡◌, ◌↔◌, ◌++◌, ℕ, List, codes, Option}
 use Rattle.std.specs.Str.{IsUtf8, chars}
 use Rattle.std.specs.Io.KnownBytes.{Appends}
 use Rattle.mm_goto.specs.declared.ident.At.{At}
 use Rattle.mm_goto.specs.declared.model.Model.{Model}
 use Rattle.mm_goto.specs.Bounds.{Bounding}
 use Rattle.mm_goto.specs.Listing.{Listing}
-use Rattle.mm_goto.specs.Place.{place_after}
+use Rattle.mm_goto.specs.Place.{place_after, start}
+use Rattle.mm_goto.specs.declared.shape.Head.{Head}
+use Rattle.mm_graph.specs.declared.fault.GraphFault.TheVariants.{TooManySites, TooManyCells}
+use Rattle.mm_graph.specs.Graphs.{IsSmall}
+use Rattle.mm_graph.specs.Refusals.{IsRefused as IsTooLarge}
+use Rattle.mm_delay.specs.Plans.{IsHeadOf}
+use Rattle.mm_report.specs.Reports.{IsReport}
 use Rattle.mm_sched.specs.declared.entry.Rules.{Rules}
 use Rattle.mm_sched.specs.declared.entry.Rules.TheVariants.{Sc, Buffered}
 use Rattle.mm_sched.specs.Runs.{Reaches}
-use Rattle.mm_tree.specs.declared.side.Side.TheVariants.{Output}
+use Rattle.mm_tree.specs.declared.side.Side.TheVariants.{Source, Output}
 use Rattle.mm_print.specs.Meaning.{IsProgramOf}
 use Rattle.mm_print.specs.SmallText.{small_text}
 use Rattle.mm_run.specs.declared.command.Settings.{Settings}
-use Rattle.mm_run.specs.declared.command.Settings.TheVariants.{Instrument, ReplaySc, Replay}
+use Rattle.mm_run.specs.declared.command.Settings.TheVariants.{Instrument, Cycles, ReplaySc, Replay}
 use Rattle.mm_run.specs.declared.status.Status.{Status}
 use Rattle.mm_run.specs.declared.status.Status.TheVariants.{Done, Words, ReadFault, TooLong, Refused, BadSchedule, Stuck, NotFailing, WriteFault, NoMemory}
 use Rattle.mm_run.specs.Input.{IsWhole, IsTooLong}
 use Rattle.mm_run.specs.Lines.{refusal_line}
 use Rattle.mm_run.specs.Output.{AppendsPart}
 use Rattle.mm_run.specs.Parts.{IsNotUtf8, IsSplit, LacksPart}
-use Rattle.mm_run.specs.Program.{Intake, IsProgramText, IsRefused, run_by, small_source}
+use Rattle.mm_run.specs.Program.{Intake, IsProgramText, IsRefused, any, run_by, small_source}
 use Rattle.mm_run.specs.Outcome.{Outcome, TellsVerdict}
 
 -- ---- the woven program
@@ -46,6 +52,21 @@ pub data PrintsWoven (m : Model) (bound : Bounding) (p : Listing) : Status → L
   done : {out : List ℕ}
       → IsWoven p m bound out
       → PrintsWoven m bound p Done out
+
+-- ---- delay cycles
+
+-- The status and the output of `cycles` for a goto program: the report on the stores that have a delay cycle, in one line, but where
+-- the program is too large for an event graph.
+pub data ReportsCycles (m : Model) (bound : Bounding) (p : Listing) : Status → List ℕ → Type 0 where
+  too_many_sites : IsTooLarge p TooManySites
+      → ReportsCycles m bound p Refused (refusal_line start (codes "too many sites"))
+  too_many_cells : IsTooLarge p TooManyCells
+      → ReportsCycles m bound p Refused (refusal_line start (codes "too many shared cells"))
+  reported : {line : List ℕ} (head : Head)
+      → IsSmall p
+      → IsHeadOf p m bound head
+      → IsReport p head line
+      → ReportsCycles m bound p Done (line ++ codes "\n")
 
 -- ---- parts of an input
 
@@ -95,6 +116,7 @@ Replays r p = Outcome r p TellsVerdict
 -- the status and the output for an input that is a text
 abbrev pub AnswersText : Settings → List ℕ → Status → List ℕ → Type 0
 AnswersText (Instrument m bound) = AnswersProgram small_source (PrintsWoven m bound)
+AnswersText (Cycles m bound) = AnswersProgram (any Source) (ReportsCycles m bound)
 AnswersText ReplaySc = AnswersParts (run_by Sc) (Replays Sc)
 AnswersText (Replay m bound) = AnswersParts (run_by (Buffered m bound)) (Replays (Buffered m bound))
 
@@ -119,6 +141,7 @@ pub data AnswersInput (s : Settings) (old new : Option (List ℕ)) : Status → 
 -- what a command reads, and the status and the output for it; each of these commands reads its input
 abbrev pub Responds : Settings → Option (List ℕ) → Option (List ℕ) → Status → List ℕ → Type 0
 Responds (Instrument m bound) = AnswersInput (Instrument m bound)
+Responds (Cycles m bound) = AnswersInput (Cycles m bound)
 Responds ReplaySc = AnswersInput ReplaySc
 Responds (Replay m bound) = AnswersInput (Replay m bound)
 

@@ -5,17 +5,19 @@ use Rattle.mm_goto.specs.declared.model.Model.TheVariants.{Tso}
 use Rattle.mm_goto.specs.Bounds.{IsBound}
 use Rattle.mm_goto.specs.Models.{word_of}
 use Rattle.mm_run.specs.declared.command.Settings.{Settings}
-use Rattle.mm_run.specs.declared.command.Settings.TheVariants.{Instrument, ReplaySc, Replay}
+use Rattle.mm_run.specs.declared.command.Settings.TheVariants.{Instrument, Cycles, ReplaySc, Replay}
 
 -- the words of a command
 abbrev pub words_of : Settings → List (List ℕ)
 words_of (Instrument m bound) = codes "instrument" ∷ codes "--mm" ∷ word_of m ∷ codes "--bound" ∷ decimal bound ∷ []
+words_of (Cycles m bound) = codes "cycles" ∷ codes "--mm" ∷ word_of m ∷ codes "--bound" ∷ decimal bound ∷ []
 words_of ReplaySc = codes "replay" ∷ codes "--mm" ∷ codes "sc" ∷ []
 words_of (Replay m bound) = codes "replay" ∷ codes "--mm" ∷ word_of m ∷ codes "--bound" ∷ decimal bound ∷ []
 
 -- which commands there are: the bound is 1 to 8, and `instrument` is there for TSO alone
 abbrev pub IsThere : Settings → Type 0
 IsThere (Instrument m bound) = (m ≡ Tso) × IsBound bound
+IsThere (Cycles m bound) = IsBound bound
 IsThere ReplaySc = Unit {0}
 IsThere (Replay m bound) = IsBound bound
 

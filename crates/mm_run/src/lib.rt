@@ -3,6 +3,7 @@
 
 mod answer;
 mod command;
+mod cycles;
 mod input;
 mod instrument;
 pub mod laws;

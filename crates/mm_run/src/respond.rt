@@ -4,6 +4,7 @@ ghost use Rattle.mm_run.specs.Answer.{AnswersText, AnswersWhole, IsOfInput, Resp
 
 use crate::answer::{Answer, answer_too_long, refused};
 use crate::command::Settings;
+use crate::cycles::answer_cycles;
 use crate::input::{Input, InputFault, MAX_INPUT, read_input};
 use crate::instrument::answer_instrument;
 use crate::parts::text_of;
@@ -19,6 +20,7 @@ fn answer_text(alloc: Global, settings: Settings, input: &str) -> Result<Answer,
 {
     match settings {
         Settings::Instrument(model, bound) => answer_instrument(alloc, model, bound, input),
+        Settings::Cycles(model, bound) => answer_cycles(alloc, model, bound, input),
         Settings::ReplaySc => answer_replay(alloc, &Rules::Sc, input),
         Settings::Replay(model, bound) => {
             answer_replay(alloc, &Rules::Buffered(model, bound), input)

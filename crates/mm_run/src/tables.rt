@@ -9,7 +9,7 @@ ghost use Rattle.mm_parse_expr.specs.declared.symbol.Symbol.TheVariants as symbo
 ghost use Rattle.mm_parse_expr.specs.Symbols.{word_symbol, mark_symbol};
 ghost use Rattle.mm_small.specs.declared.tree.TheConstants.{MAX_VARIABLES, MAX_SITES};
 ghost use Rattle.mm_grammar.specs.Nesting.{limits};
-ghost use Rattle.mm_run.specs.declared.command.Settings.TheVariants.{Instrument, ReplaySc, Replay};
+ghost use Rattle.mm_run.specs.declared.command.Settings.TheVariants.{Instrument, Cycles, ReplaySc, Replay};
 ghost use Rattle.mm_run.specs.declared.input.TheConstants.{MAX_INPUT};
 ghost use Rattle.mm_run.specs.declared.status.Status.TheVariants.{Done, Words, ReadFault, TooLong, Refused, BadSchedule, Stuck, NotFailing, WriteFault, NoMemory};
 ghost use Rattle.mm_run.specs.Settings.{words_of};
@@ -18,6 +18,7 @@ ghost use Rattle.mm_run.specs.Status.{number_of};
 /// The words of the commands.
 pub fn commands_have_words()
     ensures instrument { words_of (Instrument Tso 1) ≡ codes "instrument" ∷ codes "--mm" ∷ codes "tso" ∷ codes "--bound" ∷ codes "1" ∷ [] }
+    ensures cycles { words_of (Cycles Pso 2) ≡ codes "cycles" ∷ codes "--mm" ∷ codes "pso" ∷ codes "--bound" ∷ codes "2" ∷ [] }
     ensures replay { words_of (Replay Pso 8) ≡ codes "replay" ∷ codes "--mm" ∷ codes "pso" ∷ codes "--bound" ∷ codes "8" ∷ [] }
     ensures direct { words_of ReplaySc ≡ codes "replay" ∷ codes "--mm" ∷ codes "sc" ∷ [] }
 {}

@@ -47,6 +47,7 @@ fn command_of(word: &str, model: Model, bound: Bound) -> Option<Settings>
 {
     match word {
         "instrument" => woven_for(model, bound),
+        "cycles" => Some(Settings::Cycles(model, bound)),
         "replay" => Some(Settings::Replay(model, bound)),
         _ => None,
     }

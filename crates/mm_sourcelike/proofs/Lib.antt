@@ -36,6 +36,9 @@ pub mod PlainExpressions
 pub mod PlainPures
 pub mod PlainStatements
 pub mod PlainThreads
+pub mod PrintableExpressions
+pub mod PrintableItems
+pub mod PrintableStatements
 pub mod Pures
 pub mod Resolving
 pub mod SafeExpressions

@@ -32,7 +32,8 @@ use Rattle.mm_flow.specs.Expressions.{Scope, Val, Vals, expr_value, values, the_
 use Rattle.mm_flow.specs.Programs.{body_of, most_calls, in_thread, thread_code}
 use Rattle.mm_flow.specs.Scopes.{spot_of}
 use Rattle.mm_flow.specs.Statements.{Known, Doing, Function, Within, scope, reads, function_of, is_function, as_function, is_input, sets, called, call_of, call_value, aim_of, aim_at, value_of, first_value, declared_one, declared, local_left, left_aim, assigned_to, assigned, updated_to, set_ret, returned, in_order, while_code, optional, for_code, stmt_step, placed_step, stmt_code, body_code, inline_at, condition}
-use Rattle.mm_sourcelike.specs.Grammatical.{Phrase, alone, updating, IsPhrase, IsUnsigned, node_tokens, tokens_of, updates, value_phrases, optional_phrases, left_phrases, local_phrases, condition_phrases, all_phrases, stmt_phrases, phrases_layer, phrases_of, body_phrases, item_phrases}
+use Rattle.mm_sourcelike.specs.Grammatical.{Phrase, alone, updating, IsPhrase, IsUnsigned, node_tokens, tokens_of, value_phrases, optional_phrases, left_phrases, local_phrases, condition_phrases, all_phrases, stmt_phrases, phrases_layer, phrases_of, body_phrases, item_phrases}
+use Rattle.mm_print.specs.Printable.{updates}
 use Rattle.mm_sourcelike.specs.Ints.{numbers_of, node_numbers}
 use Rattle.mm_sourcelike.proofs.Checking.{false_is_not}
 use Rattle.mm_sourcelike.proofs.Evaluating.{all_left, all_right, node_ints}

@@ -31,9 +31,10 @@ use Rattle.mm_grammar.specs.StatementGrammar as g
 use Rattle.mm_grammar.specs.StatementGrammar.{IsAssign, IsNull, IsAction, AreNames, IsStar, IsLocal, AreLocals, IsDeclaration, IsStep, IsFirst, IsCondition, IsGiven, IsStmt, IsStmtNode, IsBody, one}
 use Rattle.mm_grammar.proofs.StatementShorter.{assign_shorter, action_shorter, declaration_shorter, step_shorter, first_shorter, condition_shorter, given_shorter}
 use Rattle.mm_parse_expr.proofs.ExprComplete.{expr_shorter}
+use Rattle.mm_print.specs.Printable.{updates}
 use Rattle.mm_sourcelike.specs.Ints.{numbers_of, of_value, of_left, of_optional, of_locals, of_parts, stmt_numbers, stmt_layer, of_stmt}
 use Rattle.mm_sourcelike.specs.Shapes.{Shape, shape_step, shape_layer, shape_of, are_scoped, is_closed}
-use Rattle.mm_sourcelike.specs.Grammatical.{Phrase, alone, updating, IsPhrase, updates, left_phrases, value_phrases, optional_phrases, local_phrases, all_phrases, stmt_phrases, phrases_layer, phrases_of}
+use Rattle.mm_sourcelike.specs.Grammatical.{Phrase, alone, updating, IsPhrase, left_phrases, value_phrases, optional_phrases, local_phrases, all_phrases, stmt_phrases, phrases_layer, phrases_of}
 use Rattle.mm_sourcelike.proofs.TextStreams.{Stream, within}
 use Rattle.mm_sourcelike.proofs.TextExpressions.{both, Spelled, expr_read, one_spelled}
 use Rattle.mm_sourcelike.proofs.TextValues.{spelled_ints, spelled_unsigned, phrase_alone, left_read, call_read, value_read}

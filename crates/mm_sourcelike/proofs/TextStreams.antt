@@ -1,10 +1,11 @@
 -- The terminals of a text from a place on, and what each of them is by the text's tokens.
 use Rattle.std.specs.Prelude.{◌≡◌, ℕ, ℤ, pos, ◌≤◌, true, List, [], ◌∷◌}
 use Rattle.mm_parse_expr.specs.declared.symbol.Symbol.{Symbol}
-use Rattle.mm_parse_expr.specs.declared.symbol.Symbol.TheVariants.{Name, Number, Update}
+use Rattle.mm_parse_expr.specs.declared.symbol.Symbol.TheVariants.{Name, Number, Text, Update}
 use Rattle.mm_parse_expr.specs.declared.terminal.Terminal.{Terminal}
 use Rattle.mm_grammar.specs.Nesting.{tokens_after}
-use Rattle.mm_sourcelike.specs.Grammatical.{IsName, updates}
+use Rattle.mm_print.specs.Printable.{IsPrintableText, updates}
+use Rattle.mm_sourcelike.specs.Grammatical.{IsName}
 
 -- a number as the lexer takes it
 abbrev pub IsLiteral : ℤ → Type 0
@@ -14,6 +15,7 @@ IsLiteral z = (k : ℕ) × (z ≡ pos k) × (k ≤ 2147483647)
 abbrev pub IsProperAs : Symbol → List ℕ → Type 0
 IsProperAs (Number z) spelling = IsLiteral z
 IsProperAs Name spelling = IsName spelling
+IsProperAs Text spelling = IsPrintableText spelling
 IsProperAs (Update op) spelling = updates op ≡ true
 IsProperAs _ spelling = Unit {0}
 

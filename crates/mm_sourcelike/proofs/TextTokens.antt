@@ -1,8 +1,11 @@
 -- What the tokens of a text are for the grammar: numbers are literals, names are names, and there are no more of them than bytes.
-use Rattle.std.proofs.Common.{arith, ◌≡◌, refl, subst, sym, ap, ◌∙◌, ℕ, zero, suc, pos, ◌+◌, ◌≤◌, ◌<◌, Bool, true, false, not, ◌&&◌, ◌||◌, ◌==◌, cond, nat_le, nat_lt, IsTrue, if◌then◌else◌, List, [], ◌∷◌, map, length, take, drop, slice_index, Option, Some, None}
+use Rattle.std.proofs.Common.{arith, ◌≡◌, refl, subst, sym, ap, ◌∙◌, ℕ, zero, suc, pos, ◌+◌, ◌≤◌, ◌<◌, Bool, true, false, not, ◌&&◌, ◌||◌, ◌==◌, cond, nat_le, nat_lt, IsTrue, if◌then◌else◌, List, [], ◌∷◌, map, length, take, drop, slice_index, ◌++◌, ◌-◌, length-append, Option, Some, None}
 use Rattle.std.specs.List.{AllByRecursion, list_all, prefix_len}
 use Rattle.std.specs.Str.{bytes_eq, chars, encode_utf8_all, IsUtf8}
+use Rattle.std.specs.Char.{is_ascii}
 use Rattle.std.proofs.lemmas.Bool.{and_parts}
+use Rattle.std.proofs.Math.Seq.{take-append_seam}
+use Rattle.std.proofs.lemmas.List.Folds.{length-prefix_len}
 use Rattle.std.proofs.lemmas.Bool.Decides.{nat_tests}
 use Rattle.std.proofs.lemmas.Str.{chars_from_encodes}
 use lib.Utf8.{scalars}
@@ -15,10 +18,11 @@ use Rattle.mm_lexer.specs.declared.token.TokenKind.{TokenKind}
 use Rattle.mm_lexer.specs.declared.token.TokenKind.TheVariants.{Name, Number, Text, Mark}
 use Rattle.mm_lexer.specs.declared.piece.Piece.{Piece}
 use Rattle.mm_lexer.specs.declared.piece.Piece.TheVariants.{Gap, Token, Bad, TooLarge}
-use Rattle.mm_lexer.specs.Class.{is_in}
+use Rattle.mm_lexer.specs.Class.{is_in, is_text_char}
 use Rattle.mm_lexer.specs.Marks.{mark_len}
 use Rattle.mm_lexer.specs.Piece.{number, base_of, lead_len, quoted, mark_of, closing, comment_of, line_comment, comment, hash, piece_at, digits_len, is_whole, value_of}
 use Rattle.mm_lexer.specs.Tokens.{AreTokens, AreInOrder, IsSpan, Reads, bytes_of, token_at}
+use Rattle.mm_lexer.proofs.Characters.{encodes_ascii}
 use Rattle.mm_lexer.proofs.Spans.{StandsAt, stands_after, stands_at_start, bytes, reads_spans, all_in_order}
 use Rattle.mm_tree.specs.declared.side.Side.{Side}
 use Rattle.mm_parse_expr.specs.declared.symbol.Symbol.{Symbol}
@@ -26,18 +30,26 @@ use Rattle.mm_parse_expr.specs.declared.symbol.Symbol.TheVariants as symbol
 use Rattle.mm_parse_expr.specs.declared.symbol.TheConstants.{WORDS, MARKS}
 use Rattle.mm_parse_expr.specs.declared.terminal.Terminal.{Terminal}
 use Rattle.mm_parse_expr.specs.Symbols.{lookup, mark_symbol, word_symbol}
-use Rattle.mm_parse_expr.specs.Terminals.{terminal_of}
+use Rattle.mm_parse_expr.specs.Terminals.{terminal_of, between_quotes}
 use Rattle.mm_parse_expr.proofs.WordNames.{no_word}
 use Rattle.mm_grammar.specs.declared.depth.Counts.{Counts}
 use Rattle.mm_grammar.specs.Nesting.{limits, counted, passes, deep_behind}
-use Rattle.mm_sourcelike.specs.Grammatical.{updates}
+use Rattle.mm_print.specs.Printable.{IsPrintableText, updates}
 use Rattle.mm_sourcelike.proofs.TextStreams.{IsLiteral, IsProper, IsProperAs, Stream}
 
 -- ---- pieces
 
+-- a short text between quotes
+record IsQuotation (cs : List ℕ) : Type 0 where
+  inner : List ℕ
+  is : cs ≡ 34 ∷ (inner ++ 34 ∷ [])
+  printable : list_all is_text_char inner ≡ true
+  short : length inner ≤ 200
+
 abbrev TakenOf : List ℕ → Piece → Type 0
 TakenOf cs (Token (Number z) n) = IsLiteral z
 TakenOf cs (Token Name n) = is_name (take n cs) ≡ true
+TakenOf cs (Token Text n) = IsQuotation (take n cs)
 TakenOf cs _ = Unit {0}
 
 record Taken (cs : List ℕ) (x : Piece) : Type 0 where
@@ -60,19 +72,20 @@ where_so false h k = k
 one_more : (n : ℕ) → 1 + n ≡ suc n
 one_more n = omega arith
 
-first_more : (c : ℕ) (cs : List ℕ) (n : ℕ) → list_all is_name_char (take (1 + n) (c ∷ cs)) ≡ (is_name_char c && list_all is_name_char (take n cs))
-first_more c cs n = ap (λ (k : ℕ). list_all is_name_char (take k (c ∷ cs))) (one_more n)
+first_more : (p : ℕ → Bool) (c : ℕ) (cs : List ℕ) (n : ℕ) → list_all p (take (1 + n) (c ∷ cs)) ≡ (p c && list_all p (take n cs))
+first_more p c cs n = ap (λ (k : ℕ). list_all p (take k (c ∷ cs))) (one_more n)
 
-name_chars : (cs : List ℕ) → list_all is_name_char (take (prefix_len (is_in NameChar) cs) cs) ≡ true
-name_chars [] = refl
-name_chars (c ∷ cs) = by (is_name_char c) refl (name_chars cs)
+-- what a front is made of passes
+front : (p : ℕ → Bool) (cs : List ℕ) → list_all p (take (prefix_len p cs) cs) ≡ true
+front p [] = refl
+front p (c ∷ cs) = by (p c) refl (front p cs)
   where
-    by : (b : Bool) → is_name_char c ≡ b → list_all is_name_char (take (prefix_len (is_in NameChar) cs) cs) ≡ true → list_all is_name_char (take (cond b (1 + prefix_len (is_in NameChar) cs) 0) (c ∷ cs)) ≡ true
-    by true e more = first_more c cs (prefix_len (is_in NameChar) cs) ∙ (ap (λ (d : Bool). d && list_all is_name_char (take (prefix_len (is_in NameChar) cs) cs)) e ∙ more)
+    by : (b : Bool) → p c ≡ b → list_all p (take (prefix_len p cs) cs) ≡ true → list_all p (take (cond b (1 + prefix_len p cs) 0) (c ∷ cs)) ≡ true
+    by true e more = first_more p c cs (prefix_len p cs) ∙ (ap (λ (d : Bool). d && list_all p (take (prefix_len p cs) cs)) e ∙ more)
     by false e more = refl
 
 name : (c : ℕ) (cs : List ℕ) → is_name_start c ≡ true → Taken (c ∷ cs) (Token Name (1 + prefix_len (is_in NameChar) cs))
-name c cs e = record { taken = ap (λ (k : ℕ). is_name (take k (c ∷ cs))) (one_more (prefix_len (is_in NameChar) cs)) ∙ (ap (λ (d : Bool). d && list_all is_name_char (take (prefix_len (is_in NameChar) cs) cs)) e ∙ name_chars cs) }
+name c cs e = record { taken = ap (λ (k : ℕ). is_name (take k (c ∷ cs))) (one_more (prefix_len (is_in NameChar) cs)) ∙ (ap (λ (d : Bool). d && list_all is_name_char (take (prefix_len (is_in NameChar) cs) cs)) e ∙ front (is_in NameChar) cs) }
 
 whole : (ds : List ℕ) (n k : ℕ) (b : Bool) → Taken ds (cond b Bad (cond (nat_le k 2147483647) (Token (Number (pos k)) n) TooLarge))
 whole ds n k b = either b (bad ds) (where_so (nat_le k 2147483647) (λ h. record { taken = (k, refl, small h) }) (record { taken = tt }))
@@ -87,9 +100,32 @@ number_taken ds cs =
     let es = drop (lead_len base) cs in
     whole ds (lead_len base + digits_len base es) (value_of base es) (not (is_whole base es))
 
-quoted_taken : (ds cs : List ℕ) → Taken ds (quoted cs)
+one_behind : (n : ℕ) (cs : List ℕ) → slice_index cs n ≡ 34 → take (suc n) cs ≡ take n cs ++ 34 ∷ []
+one_behind zero [] e = cc
+one_behind zero (c ∷ cs) e = ap (λ (d : ℕ). d ∷ []) e
+one_behind (suc n) [] e = cc
+one_behind (suc n) (c ∷ cs) e = ap (λ (ds : List ℕ). c ∷ ds) (one_behind n cs e)
+
+quotation : (cs : List ℕ) (n : ℕ) → n ≡ prefix_len (is_in Quoted) cs → (nat_le n 200 && (slice_index cs n == 34)) ≡ true → IsQuotation (take (n + 2) (34 ∷ cs))
+quotation cs n size h = record {
+  inner = take n cs;
+  is = ap (λ (k : ℕ). take k (34 ∷ cs)) (two_more n) ∙ ap (λ (ds : List ℕ). 34 ∷ ds) (one_behind n cs (closes (and_parts (nat_le n 200) (slice_index cs n == 34) h).1));
+  printable = subst (λ (k : ℕ). list_all is_text_char (take k cs) ≡ true) (sym size) (front (is_in Quoted) cs);
+  short = few (and_parts (nat_le n 200) (slice_index cs n == 34) h).0 (subst (λ (k : ℕ). length (take k cs) ≡ k) (sym size) (length-prefix_len (is_in Quoted) cs));
+}
+  where
+    two_more : (k : ℕ) → k + 2 ≡ suc (suc k)
+    two_more k = omega arith
+
+    closes : (slice_index cs n == 34) ≡ true → slice_index cs n ≡ 34
+    closes e = grind (arith, nat_tests)
+
+    few : nat_le n 200 ≡ true → length (take n cs) ≡ n → length (take n cs) ≤ 200
+    few e l = grind (arith, nat_tests)
+
+quoted_taken : (cs : List ℕ) → Taken (34 ∷ cs) (quoted cs)
 unfolding quoted
-quoted_taken ds cs = let n = prefix_len (is_in Quoted) cs in either (nat_le n 200 && (slice_index cs n == 34)) (record { taken = tt }) (bad ds)
+quoted_taken cs = let n = prefix_len (is_in Quoted) cs in where_so (nat_le n 200 && (slice_index cs n == 34)) (λ h. record { taken = quotation cs n refl h }) (bad (34 ∷ cs))
 
 mark_taken : (ds : List ℕ) (n : ℕ) → Taken ds (mark_of n)
 mark_taken ds n = either (n == 0) (bad ds) (record { taken = tt })
@@ -118,10 +154,13 @@ piece_taken h (c ∷ cs) =
     either _ (gap ds 1)
     (where_so (is_name_start c) (name c cs)
     (either _ (number_taken ds ds)
-    (either _ (quoted_taken ds cs)
+    (where_so (c == 34) (λ e. subst (λ (k : ℕ). Taken (k ∷ cs) (quoted cs)) (sym (is_quote e)) (quoted_taken cs))
     (either _ (line_comment_taken ds cs)
     (either _ (comment_taken ds cs)
     (either _ (hash_taken ds h cs) (mark_taken ds (mark_len ds))))))))
+  where
+    is_quote : (c == 34) ≡ true → c ≡ 34
+    is_quote e = grind (arith, nat_tests)
 
 token_taken : (h : Bool) (cs : List ℕ) (kind : TokenKind) (n : ℕ) → piece_at h cs ≡ Token kind n → Taken cs (Token kind n)
 token_taken h cs kind n e = subst (λ (x : Piece). Taken cs x) e (piece_taken h cs)
@@ -134,10 +173,11 @@ words = map (λ entry. (entry.0.now, entry.1)) WORDS
 abbrev marks : List (List ℕ × Symbol)
 marks = map (λ entry. (entry.0.now, entry.1)) MARKS
 
--- neither a number nor a name, and if it updates, by an operator that has such a form
+-- neither a number, a name nor a text, and if it updates, by an operator that has such a form
 abbrev is_plain : Symbol → Bool
 is_plain (symbol.Number z) = false
 is_plain symbol.Name = false
+is_plain symbol.Text = false
 is_plain (symbol.Update op) = updates op
 is_plain _ = true
 
@@ -151,6 +191,10 @@ plain_proper (symbol.Number z) w h = absurd (never h)
     never : false ≡ true → ⊥
     never e = cc
 plain_proper symbol.Name w h = absurd (never h)
+  where
+    never : false ≡ true → ⊥
+    never e = cc
+plain_proper symbol.Text w h = absurd (never h)
   where
     never : false ≡ true → ⊥
     never e = cc
@@ -197,9 +241,30 @@ scalars_take (suc n) (c ∷ cs) h = by _ h (scalars_take n cs)
     by true h more = more h
     by false h more = cc
 
+text_ascii : (c : ℕ) → is_text_char c ≡ true → is_ascii c ≡ true
+text_ascii c e = grind (arith, nat_tests)
+
+texts_ascii : (cs : List ℕ) → list_all is_text_char cs ≡ true → list_all is_ascii (cs ++ 34 ∷ []) ≡ true
+texts_ascii [] e = refl
+texts_ascii (c ∷ cs) e =
+    let parts = and_parts (is_text_char c) (list_all is_text_char cs) e in
+    ap (λ (b : Bool). b && list_all is_ascii (cs ++ 34 ∷ [])) (text_ascii c parts.0) ∙ texts_ascii cs parts.1
+
+between_ascii : (cs : List ℕ) → list_all is_text_char cs ≡ true → list_all is_ascii (34 ∷ (cs ++ 34 ∷ [])) ≡ true
+between_ascii cs e = texts_ascii cs e
+
+between : (cs : List ℕ) → between_quotes (34 ∷ (cs ++ 34 ∷ [])) ≡ cs
+between cs = ap (λ (k : ℕ). take k (cs ++ 34 ∷ [])) size ∙ take-append_seam cs (34 ∷ [])
+  where
+    size : length (34 ∷ (cs ++ 34 ∷ [])) - 2 ≡ length cs
+    size = omega (arith, length-append cs (34 ∷ []))
+
 proper_at : (text : List ℕ) (p : Place) (cs : List ℕ) (kind : TokenKind) (n : ℕ) → StandsAt text p cs → Taken cs (Token kind n) → IsProper (terminal_of text (token_at kind p (take n cs)))
 proper_at text p cs (Number z) n s h = h.taken
-proper_at text p cs Text n s h = tt
+proper_at text p cs Text n s h =
+    let q : IsQuotation (take n cs) = h.taken in
+    let e : bytes_of text (token_at Text p (take n cs)) ≡ 34 ∷ (q.inner ++ 34 ∷ []) = bytes text p cs Text n s ∙ (ap encode_utf8_all q.is ∙ encodes_ascii (34 ∷ (q.inner ++ 34 ∷ [])) (between_ascii q.inner q.printable)) in
+    subst IsPrintableText (sym (ap between_quotes e ∙ between q.inner)) (record { printable = q.printable; short = q.short })
 proper_at text p cs Mark n s h = mark_proper (bytes_of text (token_at Mark p (take n cs)))
 proper_at text p cs Name n s h =
     let e : bytes_of text (token_at Name p (take n cs)) ≡ encode_utf8_all (take n cs) = bytes text p cs Name n s in

@@ -4,7 +4,6 @@ use Rattle.std.specs.List.{AllByRecursion}
 use Rattle.std.specs.Str.{chars, IsUtf8}
 use Rattle.mm_goto.specs.declared.ident.Ident.{Ident}
 use Rattle.mm_goto.specs.declared.pure.Binary.{Binary}
-use Rattle.mm_goto.specs.declared.pure.Binary.TheVariants as binary
 use Rattle.mm_goto.specs.Names.{is_name, is_word}
 use Rattle.mm_tree.specs.declared.expr.Expr.{Expr, fold-Expr}
 use Rattle.mm_tree.specs.declared.expr.Node.TheOpen as node
@@ -23,6 +22,7 @@ use Rattle.mm_tree.specs.declared.item.Tree.{Tree}
 use Rattle.mm_tree.specs.declared.side.Side.{Side}
 use Rattle.mm_tree.specs.declared.side.Side.TheVariants.{Source, Output}
 use Rattle.mm_flow.specs.Programs.{body_of, globals_in, mutexes_in}
+use Rattle.mm_print.specs.Printable.{updates}
 use Rattle.mm_sourcelike.specs.Ints.{AreInts, all_numbers, numbers_of}
 use Rattle.mm_sourcelike.specs.Shapes.{IsScoped}
 
@@ -129,27 +129,6 @@ item_phrases [] = []
 item_phrases (i ∷ is) = body_phrases (body_of i) ++ item_phrases is
 
 -- ---- what holds of phrases
-
--- the operators that stand before = in an update
-abbrev pub updates : Binary → Bool
-updates binary.Add = true
-updates binary.Sub = true
-updates binary.Mul = true
-updates binary.Div = true
-updates binary.Rem = true
-updates binary.Shl = true
-updates binary.Shr = true
-updates binary.And = true
-updates binary.Xor = true
-updates binary.Or = true
-updates binary.Eq = false
-updates binary.Ne = false
-updates binary.Lt = false
-updates binary.Le = false
-updates binary.Gt = false
-updates binary.Ge = false
-updates binary.Land = false
-updates binary.Lor = false
 
 abbrev pub expr_in : Phrase → Expr
 expr_in (alone e) = e

@@ -19,6 +19,7 @@ ghost use Rattle.mm_tree.specs.declared.side.Side.TheVariants.{Source};
 ghost use Rattle.mm_names.specs.Programs.{IsAccepted};
 ghost use Rattle.mm_flow.specs.Programs.{limit_passed, program_of};
 ghost use Rattle.mm_grammar.specs.Meaning.{IsTreeOf};
+ghost use Rattle.mm_print.specs.Printable.{IsPrintableTree};
 ghost use Rattle.mm_sourcelike.specs.Grammatical.{IsGrammatical, IsUnsigned};
 ghost use Rattle.mm_sourcelike.specs.Ints.{AreInts};
 ghost use Rattle.mm_sourcelike.specs.Shapes.{IsScoped};
@@ -26,6 +27,11 @@ ghost use Rattle.mm_sourcelike.specs.Shapes.{IsScoped};
 /// The tree of a text is as the grammar has it: its numbers are ints, its declarations stand in blocks, and its expressions are short.
 pub fn a_text_has_a_grammatical_tree()
     ensures { (side : Side) (text : List ℕ) (tree : Tree) → IsUtf8 text → length text < 2 ^ 32 → IsTreeOf side text tree → IsGrammatical side tree }
+{}
+
+/// The tree of a text is printable: it has the text that is printed of it, which is read as it again.
+pub fn a_text_has_a_printable_tree()
+    ensures { (side : Side) (text : List ℕ) (tree : Tree) → IsUtf8 text → IsTreeOf side text tree → IsPrintableTree tree }
 {}
 
 /// What a text that makes sense is flattened to within the limits is a valid program.

@@ -5,7 +5,7 @@ use Rattle.std.specs.Str.{bytes_eq}
 use Rattle.mm_goto.specs.declared.model.Model.{Model}
 use Rattle.mm_goto.specs.declared.model.Model.TheVariants.{Tso, Pso}
 use Rattle.mm_run.specs.declared.command.Settings.{Settings}
-use Rattle.mm_run.specs.declared.command.Settings.TheVariants.{Instrument, ReplaySc, Replay}
+use Rattle.mm_run.specs.declared.command.Settings.TheVariants.{Instrument, Cycles, ReplaySc, Replay}
 
 -- tso or pso
 abbrev pub model_of : List ℕ → Option Model
@@ -21,10 +21,13 @@ abbrev pub woven_for : Model → ℕ → Option Settings
 woven_for Tso k = Some (Instrument Tso k)
 woven_for Pso k = None
 
--- instrument or replay, with its model and its bound
+-- instrument, cycles or replay, with its model and its bound
 abbrev pub command_of : List ℕ → Model → ℕ → Option Settings
 command_of word m k =
-    if bytes_eq word (codes "instrument") then woven_for m k else if bytes_eq word (codes "replay") then Some (Replay m k) else None
+    if bytes_eq word (codes "instrument") then woven_for m k
+    else if bytes_eq word (codes "cycles") then Some (Cycles m k)
+    else if bytes_eq word (codes "replay") then Some (Replay m k)
+    else None
 
 -- C --mm M --bound K, with a command C
 abbrev pub with_bound : (command mm model bound number : List ℕ) → Option Settings

@@ -28,6 +28,9 @@ decreases-call l = l.room
 abbrev pub decreases-inline : goal.decreases-inline
 decreases-inline l = l.room
 
+abbrev pub decreases-inline_with : goal.decreases-inline_with
+decreases-inline_with l = l.room
+
 abbrev pub decreases-stmts : goal.decreases-stmts
 decreases-stmts l = l.room
 

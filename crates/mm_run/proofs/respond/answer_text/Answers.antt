@@ -8,3 +8,6 @@ returns-in-ReplaySc c = rw c.in-ReplaySc.is c.answer_replay.ensures
 
 pub returns-in-Replay : goal.returns-in-Replay
 returns-in-Replay c = rw c.in-Replay.is c.answer_replay-in-Replay.ensures
+
+pub returns-in-Cycles : goal.returns-in-Cycles
+returns-in-Cycles c = rw c.in-Cycles.is c.answer_cycles.ensures

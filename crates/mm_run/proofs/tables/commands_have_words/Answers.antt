@@ -7,3 +7,6 @@ returns-clause-instrument c = ap (λ (number : List ℕ). codes "instrument" ∷
 
 pub returns-clause-replay : goal.returns-clause-replay
 returns-clause-replay c = ap (λ (number : List ℕ). codes "replay" ∷ codes "--mm" ∷ codes "pso" ∷ codes "--bound" ∷ number ∷ []) (decimal_digit 8 (omega arith))
+
+pub returns-clause-cycles : goal.returns-clause-cycles
+returns-clause-cycles c = ap (λ (number : List ℕ). codes "cycles" ∷ codes "--mm" ∷ codes "pso" ∷ codes "--bound" ∷ number ∷ []) (decimal_digit 2 (omega arith))

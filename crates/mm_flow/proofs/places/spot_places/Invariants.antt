@@ -1,0 +1,6 @@
+use Rattle.std.proofs.Common.{take}
+use Rattle.mm_flow.specs.reading.Finding.{ArePlaced, spot_is_called}
+use Rattle.mm_flow.proofs.places.spot_places.Given as goal
+
+abbrev pub invariant-loop-i : goal.invariant-loop-i
+invariant-loop-i l = ArePlaced spot_is_called l.places (take l.i l.spots)

@@ -1,0 +1,9 @@
+pub mod Extremes
+pub mod Filling
+pub mod Flowing
+pub mod KindsOfSites
+pub mod Laws
+pub mod Made
+pub mod Named
+pub mod Pairs
+pub mod Reaching

@@ -1,0 +1,9 @@
+use Rattle.std.proofs.lemmas.Option.{slice_get-get_or}
+use Rattle.mm_graph.specs.reading.Accesses.{IsAccessOf}
+use Rattle.mm_graph.proofs.Pairs.{of_more}
+use Rattle.mm_graph.proofs.making.accesses_of.Goals as goal
+
+pub spots-preserved : goal.spots-preserved
+spots-preserved c =
+    rw c.in_ok-push.ensures.items (of_more (IsAccessOf c.args.program.now) c.args.spots.now c.spots.k c.spots.found.items _ c.access_at-access.result c.spots.invariant
+    (slice_get-get_or c.args.spots.now c.spots.k _ c.spots-test.true) c.access_at-access.ensures)

@@ -1,0 +1,4 @@
+pub mod Graphs
+pub mod Refusals
+pub mod reading
+pub mod Sites

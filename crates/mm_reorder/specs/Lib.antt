@@ -1,0 +1,3 @@
+pub mod AddedEdges
+pub mod Orders
+pub mod Cycles

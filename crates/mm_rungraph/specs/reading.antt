@@ -1,0 +1,2 @@
+-- What mirrors the code. Nothing that a reader believes rests on it.
+pub mod Walking
