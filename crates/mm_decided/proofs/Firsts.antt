@@ -1,11 +1,11 @@
 -- The first path and the first cycle, over relations that are decided.
-use Rattle.std.proofs.Common.{◌≡◌, ℕ, zero, suc, ◌+◌, ◌<◌, ◌≤◌, List, [], ◌∷◌, length, inl, inr, arith, refl, subst, sym}
-use Rattle.std.proofs.lemmas.Bool.{cases_order, cases_lt}
+use Rattle.std.proofs.Common.{◌≡◌, ℕ, zero, suc, ◌+◌, List, [], ◌∷◌, length, inl, inr, arith, subst, sym}
 use Rattle.std.specs.Prelude.{◌⊎◌}
-use Rattle.mm_goto.specs.Paths.{IsPath, Leads, IsUpTo, less, IsFirstPath}
-use Rattle.mm_goto.specs.DelayCycles.{IsCycle, cycle, IsFirstCycle, rank}
+use Rattle.mm_goto.specs.Paths.{Leads, IsFirstPath}
+use Rattle.mm_goto.specs.DelayCycles.{IsCycle, IsFirstCycle}
 use Rattle.mm_bits.specs.Near.{Near}
-use Rattle.mm_bits.proofs.Firsts.{upto_head, upto_tail, upto_same, path_head, near_edge, near_more, near_on, first_edge, first_step, IsNext}
+use Rattle.mm_bits.proofs.Firsts.{near_edge, near_more, near_on, first_edge, first_step, IsNext}
+use Rattle.mm_cycles.proofs.FirstCycles.{first_cycle, no_cycle}
 use Rattle.mm_decided.proofs.Deciding.{Decided, as_well, both, either, SomeBelow, some_below, least_of}
 use Rattle.mm_decided.proofs.Reaching.{IsDecided, leads_decided, leads_from}
 
@@ -44,50 +44,6 @@ module _ (n : ℕ) (E : ℕ → ℕ → Type 0) (is : IsDecided n E) (b : ℕ) w
         let P : ℕ → Type 0 = λ k. Near E b k x in
         onward d x (first_path d) far (subst P same near)
   ]
-
-module _ (U C E : ℕ → ℕ → Type 0) (s : ℕ) where
-  -- the least list of a path, from the order of length and list
-  shorter : (m n : ℕ) (xs ys : List ℕ) → m ≡ n → IsUpTo (length (m ∷ xs) ∷ m ∷ xs) (length (n ∷ ys) ∷ n ∷ ys) → IsUpTo (length xs ∷ xs) (length ys ∷ ys)
-  shorter m n xs ys one h =
-      let low = upto_head _ _ _ _ h in
-      elim (cases_lt (length xs) (length ys)) [
-        | inl fewer ↦ less fewer
-        | inr more ↦
-            let even : length xs ≡ length ys = omega arith in
-            upto_same _ _ _ _ even (upto_tail _ _ _ _ one (upto_tail _ _ _ _ (omega arith) h))
-      ]
-
-  module _ (l m : ℕ) (path : List ℕ) (is_unsafe : U s l) (meets : C l m) (first : IsFirstPath E m path s)
-      (before : (k n : ℕ) → k < l → U s k → C k n → ¬ (Leads E n s))
-      (least : (n : ℕ) → C l n → Leads E n s → m ≤ n) where
-    against : (k n : ℕ) (xs : List ℕ) → U s k → C k n → IsPath E n xs s → IsUpTo (rank (s ∷ l ∷ path)) (rank (s ∷ k ∷ xs))
-    against k n xs u c p =
-        let mine = path_head E s m path first.is in
-        let theirs = path_head E s n xs p in
-        rw (mine.1, theirs.1)
-        (elim (cases_order l k) [
-          | inl one ↦
-              let c' : C l n = rw (← one) at c in
-              let low : m ≤ n = least n c' (xs, p) in
-              upto_same l k _ _ one (elim (cases_lt m n) [
-                | inl lower ↦ less lower
-                | inr not_lower ↦
-                    let two : m ≡ n = omega arith in
-                    let p' : IsPath E m xs s = rw (← two) at p in
-                    upto_same m n _ _ two (shorter m n _ _ two (rw (mine.1, theirs.1) at (first.first xs p')))
-              ])
-          | inr (inl less_l) ↦ less less_l
-          | inr (inr more_l) ↦ absurd (before k n more_l u c (xs, p))
-        ])
-
-    first_cycle : IsFirstCycle U C E s (s ∷ l ∷ path)
-    first_cycle = record { of = refl; is = cycle is_unsafe meets first.is; first = each }
-      where
-        each : (rest : List ℕ) → IsCycle U C E (s ∷ rest) → IsUpTo (rank (s ∷ l ∷ path)) (rank (s ∷ rest))
-        each _ (cycle {l = k} {m = n} {back = xs} u c p) = against k n xs u c p
-
-  no_cycle : ((k n : ℕ) → U s k → C k n → ¬ (Leads E n s)) → (rest : List ℕ) → ¬ (IsCycle U C E (s ∷ rest))
-  no_cycle none _ (cycle {l = k} {m = n} {back = xs} u c p) = none k n u c (xs, p)
 
 module _ (n : ℕ) (U C E : ℕ → ℕ → Type 0) (of_u : IsDecided n U) (of_c : IsDecided n C) (of_e : IsDecided n E) (s : ℕ) where
   abbrev Back : ℕ → ℕ → Type 0

@@ -44,10 +44,10 @@ rises (x ∷ xs) up = Rises.more above (rises xs behind)
 there_first : (x : ℕ) (xs : List ℕ) → Contains (x ∷ xs) x
 there_first x xs = (0, omega arith, refl)
 
-there_later : (x c : ℕ) (xs : List ℕ) → Contains xs c → Contains (x ∷ xs) c
+pub there_later : (x c : ℕ) (xs : List ℕ) → Contains xs c → Contains (x ∷ xs) c
 there_later x c xs h = (suc h.0, omega (arith, h.1), h.2)
 
-first_or_later : (x c : ℕ) (xs : List ℕ) → Contains (x ∷ xs) c → (x ≡ c) ⊎ Contains xs c
+pub first_or_later : (x c : ℕ) (xs : List ℕ) → Contains (x ∷ xs) c → (x ≡ c) ⊎ Contains xs c
 first_or_later x c xs h = by h.0 h.1 h.2
   where
     by : (k : ℕ) → k < length (x ∷ xs) → get_or (x ∷ xs) k c ≡ c → (x ≡ c) ⊎ Contains xs c

@@ -28,6 +28,7 @@ use Rattle.mm_decided.proofs.First.{first_cycle_or_none}
 use Rattle.mm_delay.specs.Plans.{AreNotes, IsHeadOf, IsNoteOf, noted}
 use Rattle.mm_report.specs.Reports.{IsReport}
 use Rattle.mm_report.proofs.Existing.{some_report}
+use Rattle.mm_report.proofs.Unique.{first_or_later, there_later}
 use Rattle.mm_run.specs.declared.status.Status.{Status}
 use Rattle.mm_run.specs.declared.status.Status.TheVariants.{Done, Refused}
 use Rattle.mm_run.specs.Answer.{ReportsCycles}
@@ -48,16 +49,6 @@ in_front x xs up above zero h = by xs above (omega (arith, h))
 in_front x xs up above (suc k) h =
     let next : suc (k + 1) ≡ suc k + 1 = omega arith in
     subst (λ n. get_or (x ∷ xs) (suc k) 0 < get_or (x ∷ xs) n 0) next (up k (omega (arith, h)))
-
-there_later : (x c : ℕ) (xs : List ℕ) → Contains xs c → Contains (x ∷ xs) c
-there_later x c xs h = (suc h.0, omega (arith, h.1), h.2)
-
-first_or_later : (x c : ℕ) (xs : List ℕ) → Contains (x ∷ xs) c → (x ≡ c) ⊎ Contains xs c
-first_or_later x c xs h = by h.0 h.1 h.2
-  where
-    by : (k : ℕ) → k < length (x ∷ xs) → get_or (x ∷ xs) k c ≡ c → (x ≡ c) ⊎ Contains xs c
-    by zero l e = inl e
-    by (suc k) l e = inr (k, omega (arith, l), e)
 
 module _ (p : Listing) (places : HasPlaces p) (m : Model) where
   -- ---- a note
