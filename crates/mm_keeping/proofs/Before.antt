@@ -1,22 +1,21 @@
 -- Starts and joins: what main does before, and that nothing of a thread is left behind the wait for it.
-use Rattle.std.proofs.Common.{arith, ◌≡◌, ℕ, zero, suc, ◌+◌, ◌-◌, ◌<◌, ◌≤◌, ◌==◌, ◌⊎◌, inl, inr, ⊎_elim, List, [], ◌∷◌, ◌++◌, length, length-append, take, map, Option, Some, None, refl, Bool, true, false, sym, ◌∙◌, ap, subst, slice_get, slice_set, slice_index_or, if◌then◌else◌}
+use Rattle.std.proofs.Common.{arith, ◌≡◌, ℕ, zero, suc, ◌+◌, ◌<◌, ◌≤◌, ◌⊎◌, inl, inr, ⊎_elim, List, [], ◌∷◌, length, length-append, take, map, Option, Some, None, refl, Bool, true, false, sym, ◌∙◌, ap, subst, slice_get, slice_index_or, if◌then◌else◌}
 use Rattle.std.specs.Prelude.{option_and_then}
-use Rattle.std.specs.List.{count_by, All}
-use Rattle.std.proofs.lemmas.Bool.{cases_eq, cases_lt, cases_order, false≢true, eq-eqb}
-use Rattle.std.proofs.lemmas.Option.{get_or_from_slice_get, slice_get_within, same_Some}
+use Rattle.std.specs.List.{count_by}
+use Rattle.std.proofs.lemmas.Bool.{cases_eq, cases_lt, false≢true}
+use Rattle.std.proofs.lemmas.Option.{same_Some}
 use Rattle.std.proofs.lemmas.List.Sums.{sum_by-append}
-use Rattle.std.proofs.lemmas.List.{get_or-set_same, get_or-set_other}
+use Rattle.std.proofs.lemmas.List.{get_or-set_other}
 use Rattle.mm_goto.specs.Bounds.{Bounding}
 use Rattle.mm_goto.specs.declared.model.Model.{Model}
 use Rattle.mm_goto.specs.declared.model.Model.TheVariants.{Tso, Pso}
 use Rattle.mm_goto.specs.declared.program.Instr.{Instr}
-use Rattle.mm_goto.specs.declared.program.Instr.TheVariants.{Set, Jump, Branch, Start, Join, End}
+use Rattle.mm_goto.specs.declared.program.Instr.TheVariants.{Jump, Branch, Start, Join, End}
 use Rattle.mm_goto.specs.declared.program.Thread.{Thread}
 use Rattle.mm_goto.specs.Flow.{GoesTo, IsSuccessor}
 use Rattle.mm_goto.specs.Listing.{Listing}
-use Rattle.mm_goto.specs.PointsTo.{instr_at}
-use Rattle.mm_goto.specs.Sourcelike.{IsSourcelike, PassesNone, JumpPassesNone, is_start_or_join}
-use Rattle.mm_goto.specs.Valid.{IsValid, code_of, is_start}
+use Rattle.mm_goto.specs.Sourcelike.{PassesNone, JumpPassesNone, is_start_or_join}
+use Rattle.mm_goto.specs.Valid.{IsValid}
 use Rattle.mm_sched.specs.declared.entry.Entry.{Entry}
 use Rattle.mm_sched.specs.declared.entry.Rules.TheVariants.{Buffered}
 use Rattle.mm_sched.specs.declared.entry.Act.{Act}
@@ -25,20 +24,18 @@ use Rattle.mm_sched.specs.declared.entry.Event.{Event}
 use Rattle.mm_sched.specs.declared.entry.Event.TheVariants.{Does, Flushes}
 use Rattle.mm_sched.specs.State.{Frame, State, Pending, idle, initial, frame_of, pending_of, at_start, all_at_start}
 use Rattle.mm_sched.specs.Buffer.{is_empty, part}
-use Rattle.mm_sched.specs.Event.{framed, done, acted, flushed, after}
-use Rattle.mm_sched.proofs.Steps.{if-at}
-use Rattle.mm_sched.proofs.Within.{All-get}
+use Rattle.mm_sched.specs.Event.{framed, done, acted, after}
 use Rattle.mm_runkeys.specs.Keys.{queue, pushes, pops}
 use Rattle.mm_runkeys.specs.Spans.{is_key, times}
-use Rattle.mm_rungraph.specs.Edges.{by, IsIssued}
+use Rattle.mm_rungraph.specs.Edges.{IsIssued}
 use Rattle.mm_rungraph.specs.RunGraph.{layout_of}
 use Rattle.mm_rungraph.specs.Traces.{events_of, after_all}
 use Rattle.mm_rungraph.proofs.Forward.{IsStore, issued_is, has_cell}
 use Rattle.mm_rungraph.proofs.Nths.{times_cons}
 use Rattle.mm_rungraph.proofs.Queues.{AreQueued, came, left, came_length, left_length}
 use Rattle.mm_rungraph.proofs.Whole.{times_up}
-use Rattle.mm_keeping.proofs.Telling.{NoTurn, TurnOf}
-use Rattle.mm_keeping.proofs.Stepping.{Doing, doing, state, frame_is, instr_is, place_at, ended_at, not_ended, goes_on, held, after_take, flush_frames}
+use Rattle.mm_keeping.proofs.Telling.{TurnOf}
+use Rattle.mm_keeping.proofs.Stepping.{doing, state, frame_is, after_take, flush_frames}
 
 -- ---- the start of a thread, told of its act
 

@@ -1,5 +1,5 @@
 -- The three ways by which an instruction must be before a site.
-use Rattle.std.proofs.Common.{arith, ◌≡◌, ℕ, ◌+◌, ◌<◌, ◌≤◌, List, length, Some, refl, Bool, true, false, sym, ◌∙◌, ap, subst, slice_get}
+use Rattle.std.proofs.Common.{arith, ◌≡◌, ℕ, ◌+◌, ◌<◌, List, Some, refl, true, sym, ◌∙◌, ap, subst, slice_get}
 use Rattle.std.proofs.lemmas.Bool.{false≢true}
 use Rattle.std.proofs.lemmas.Option.{slice_get_within}
 use Rattle.mm_goto.specs.Bounds.{Bounding}
@@ -11,7 +11,6 @@ use Rattle.mm_goto.specs.Listing.{Listing}
 use Rattle.mm_goto.specs.PointsTo.{instr_at}
 use Rattle.mm_goto.specs.Sites.{Is, is_site, MustBefore, before_start, behind_join, one_after_other}
 use Rattle.mm_goto.specs.Sourcelike.{IsSourcelike}
-use Rattle.mm_goto.specs.Valid.{code_of}
 use Rattle.mm_sched.specs.declared.entry.Entry.{Entry}
 use Rattle.mm_sched.specs.declared.entry.Rules.TheVariants.{Buffered}
 use Rattle.mm_sched.specs.declared.entry.Act.{Act}
@@ -23,7 +22,7 @@ use Rattle.mm_rungraph.specs.Traces.{Trace}
 use Rattle.mm_keeping.specs.Executions.{Executes}
 use Rattle.mm_keeping.proofs.Before.{settled, start_is}
 use Rattle.mm_keeping.proofs.Stepping.{doing, state, instr_is, place_at}
-use Rattle.mm_keeping.proofs.Order.{last_is, Ran, passed, over, starter, Joined, joins, gone, drained, within}
+use Rattle.mm_keeping.proofs.Order.{last_is, passed, over, starter, Joined, joins, gone, drained, within}
 
 module _ (m : Model) (bound : Bounding) (p : Listing) (es : List Entry) (run : Trace (Buffered m bound) p es) (source : IsSourcelike p) (a b : ℕ) (s t : Spot) (x : Executes p run.events a s) (y : Executes p run.events b t) where
   abbrev Both : Type 0

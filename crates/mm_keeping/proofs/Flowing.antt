@@ -1,5 +1,5 @@
 -- The executed instructions of a thread have flow paths.
-use Rattle.std.proofs.Common.{arith, ◌≡◌, ◌≢◌, ℕ, zero, suc, ◌<◌, ◌≤◌, ◌⊎◌, inl, inr, ⊎_elim, List, length, take, Option, Some, None, refl, Bool, true, false, not, sym, ◌∙◌, ap, subst, slice_get, if◌then◌else◌}
+use Rattle.std.proofs.Common.{arith, ◌≡◌, ◌≢◌, ℕ, suc, ◌<◌, inl, inr, ⊎_elim, List, Option, Some, refl, Bool, true, false, not, sym, ◌∙◌, ap, subst, slice_get}
 use Rattle.std.specs.Prelude.{option_and_then}
 use Rattle.std.proofs.lemmas.Option.{slice_get_within}
 use Rattle.mm_goto.specs.Bounds.{Bounding}
@@ -23,7 +23,7 @@ use Rattle.mm_rungraph.specs.Edges.{by, IsEdge}
 use Rattle.mm_rungraph.specs.RunGraph.{layout_of}
 use Rattle.mm_rungraph.specs.Traces.{Trace, events_of}
 use Rattle.mm_keeping.specs.Executions.{Executes}
-use Rattle.mm_keeping.proofs.Stepping.{Doing, doing, instr_is, place_at, ended_at, not_ended, goes_on, held}
+use Rattle.mm_keeping.proofs.Stepping.{Doing, doing, instr_is, place_at, not_ended, goes_on, held}
 
 abbrev every : Instr → Bool
 every it = true

@@ -4,3 +4,9 @@ pub mod Flowing
 pub mod Before
 pub mod Order
 pub mod Closing
+pub mod Values
+pub mod Guards
+pub mod Pointers
+pub mod Pointed
+pub mod Moving
+pub mod Naming

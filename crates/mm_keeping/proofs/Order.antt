@@ -1,20 +1,17 @@
 -- What must be before comes before.
-use Rattle.std.proofs.Common.{arith, ◌≡◌, ℕ, zero, suc, ◌+◌, ◌-◌, ◌<◌, ◌≤◌, ◌==◌, ◌⊎◌, inl, inr, ⊎_elim, List, [], length, take, Option, Some, None, refl, Bool, true, false, sym, ◌∙◌, ap, subst, slice_get, IfSome}
-use Rattle.std.specs.List.{All}
-use Rattle.std.proofs.lemmas.Bool.{cases_eq, cases_lt, cases_order, false≢true, eq-eqb}
+use Rattle.std.proofs.Common.{arith, ◌≡◌, ℕ, zero, suc, ◌+◌, ◌-◌, ◌<◌, ◌≤◌, ◌⊎◌, inl, inr, ⊎_elim, List, [], length, take, Option, Some, None, refl, true, sym, ◌∙◌, ap, subst, slice_get}
+use Rattle.std.proofs.lemmas.Bool.{cases_eq, cases_lt, cases_order, eq-eqb}
 use Rattle.std.proofs.lemmas.Option.{get_or_from_slice_get, slice_get_within, same_Some}
 use Rattle.mm_goto.specs.Bounds.{Bounding}
 use Rattle.mm_goto.specs.declared.model.Model.{Model}
 use Rattle.mm_goto.specs.declared.program.Instr.{Instr}
 use Rattle.mm_goto.specs.declared.program.Instr.TheVariants.{Start, Join, End}
 use Rattle.mm_goto.specs.declared.program.Thread.{Thread}
-use Rattle.mm_goto.specs.declared.spot.Spot.{Spot}
 use Rattle.mm_goto.specs.Flow.{IsSuccessor}
 use Rattle.mm_goto.specs.Listing.{Listing}
 use Rattle.mm_goto.specs.PointsTo.{instr_at}
-use Rattle.mm_goto.specs.Sites.{Is, is_site, MustBefore, before_start, behind_join, one_after_other}
 use Rattle.mm_goto.specs.Sourcelike.{IsSourcelike, is_start_or_join}
-use Rattle.mm_goto.specs.Valid.{IsValid, code_of, is_start}
+use Rattle.mm_goto.specs.Valid.{code_of, is_start}
 use Rattle.mm_sched.specs.declared.entry.Entry.{Entry}
 use Rattle.mm_sched.specs.declared.entry.Rules.TheVariants.{Buffered}
 use Rattle.mm_sched.specs.declared.entry.Act.{Act}
@@ -27,8 +24,7 @@ use Rattle.mm_sched.proofs.Steps.{if-at}
 use Rattle.mm_sched.proofs.Within.{All-get}
 use Rattle.mm_rungraph.specs.Edges.{IsIssued}
 use Rattle.mm_rungraph.specs.RunGraph.{layout_of}
-use Rattle.mm_rungraph.specs.Traces.{Trace, events_of, after_all}
-use Rattle.mm_keeping.specs.Executions.{Executes}
+use Rattle.mm_rungraph.specs.Traces.{events_of, after_all}
 use Rattle.mm_keeping.proofs.Telling.{TurnOf}
 use Rattle.mm_keeping.proofs.Stepping.{Doing, doing, state, frame_is, instr_is, place_at, ended_at, not_ended, goes_on, held}
 use Rattle.mm_keeping.proofs.Before.{start_is, count_zero, behind, ahead, past, initial_place, started_by, settled}

@@ -1,5 +1,5 @@
 -- The steps of a run: what each is, and how a thread's place goes on.
-use Rattle.std.proofs.Common.{arith, ◌≡◌, ℕ, zero, suc, ◌+◌, ◌<◌, ◌≤◌, ℤ, ◌⊎◌, inl, inr, ⊎_elim, List, [], ◌∷◌, length, take, Option, Some, None, refl, Bool, true, false, sym, ◌∙◌, ap, subst, slice_get, slice_set, slice_index_or, IfSome}
+use Rattle.std.proofs.Common.{arith, ◌≡◌, ℕ, zero, suc, ◌<◌, ◌≤◌, ℤ, ◌⊎◌, inl, inr, ⊎_elim, List, [], ◌∷◌, length, take, Option, Some, None, refl, Bool, true, sym, ◌∙◌, ap, subst, slice_get, slice_set, slice_index_or}
 use Rattle.std.proofs.lemmas.Bool.{cases_eq, cases_order, false≢true}
 use Rattle.std.proofs.lemmas.Option.{get_or_from_slice_get, option_and_then_some, same_Some, slice_get_within}
 use Rattle.std.proofs.lemmas.List.{get_or-set_same, get_or-set_other}
@@ -15,20 +15,19 @@ use Rattle.mm_sched.specs.declared.entry.Entry.{Entry}
 use Rattle.mm_sched.specs.declared.entry.Entry.TheVariants.{Step, In, Flush, FlushCell}
 use Rattle.mm_sched.specs.declared.entry.Rules.TheVariants.{Buffered}
 use Rattle.mm_sched.specs.declared.entry.Act.{Act}
-use Rattle.mm_sched.specs.declared.entry.Act.TheVariants.{Goes, Assigns, Fails, Ends, Loads, Pushes, Puts, Fences, Takes, Gives, Updates, Misses, Starts, Joins, Enters, Leaves}
+use Rattle.mm_sched.specs.declared.entry.Act.TheVariants.{Goes, Ends, Starts}
 use Rattle.mm_sched.specs.declared.entry.Event.{Event}
 use Rattle.mm_sched.specs.declared.entry.Event.TheVariants.{Does, Flushes}
-use Rattle.mm_sched.specs.Guarded.{◌>>=◌}
 use Rattle.mm_sched.specs.State.{Frame, State, Pending, idle, initial, frame_of, pending_of}
 use Rattle.mm_sched.specs.Buffer.{flush_of}
-use Rattle.mm_sched.specs.Event.{act, input, does, flushes, event, fetched, framed, done, acted, flushed, after}
+use Rattle.mm_sched.specs.Event.{act, input, event, fetched, framed, done, acted, flushed, after}
 use Rattle.mm_sched.specs.Invariant.{Fits}
 use Rattle.mm_sched.specs.Turn.{IsAt}
 use Rattle.mm_sched.proofs.Steps.{if-at}
 use Rattle.mm_sched.proofs.Turns.{does-some}
 use Rattle.mm_rungraph.specs.RunGraph.{layout_of}
 use Rattle.mm_rungraph.specs.Traces.{events_of, after_all}
-use Rattle.mm_rungraph.proofs.Forward.{IsMoment, moment}
+use Rattle.mm_rungraph.proofs.Forward.{moment}
 use Rattle.mm_rungraph.proofs.Queues.{AreQueued}
 use Rattle.mm_keeping.proofs.Telling.{FlowOf, Tells, act_tells, input_tells}
 

@@ -1,5 +1,5 @@
 -- What an act tells of the instruction that it is of.
-use Rattle.std.proofs.Common.{◌≡◌, ◌⊎◌, inl, inr, ℕ, ◌+◌, ℤ, pos, length, Option, Some, None, refl, Bool, true, false, not, sym, ap, nat_lt, slice_get, IfSome, if◌then◌else◌, arith}
+use Rattle.std.proofs.Common.{◌≡◌, inl, inr, ℕ, ◌+◌, ℤ, pos, length, Option, Some, None, refl, Bool, true, false, not, nat_lt, slice_get, IfSome, if◌then◌else◌, arith}
 use Rattle.std.specs.Prelude.{◌&&◌, is_none}
 use Rattle.std.specs.List.{Contains}
 use Rattle.std.specs.Int.{w32, int_wrapping_add}
@@ -16,7 +16,7 @@ use Rattle.mm_goto.specs.Value.{value_of, is_zero}
 use Rattle.mm_sched.specs.declared.entry.Rules.TheVariants.{Buffered}
 use Rattle.mm_sched.specs.declared.entry.How.TheVariants.{Delayed, NotEnabled}
 use Rattle.mm_sched.specs.declared.entry.Act.{Act}
-use Rattle.mm_sched.specs.declared.entry.Act.TheVariants.{Goes, Assigns, Fails, Ends, Loads, Pushes, Puts, Fences, Takes, Gives, Updates, Misses, Starts, Joins, Enters, Leaves}
+use Rattle.mm_sched.specs.declared.entry.Act.TheVariants.{Goes, Assigns, Fails, Ends, Loads, Pushes, Fences, Takes, Gives, Updates, Misses, Starts, Joins, Enters, Leaves}
 use Rattle.mm_sched.specs.Guarded.{◌>>=◌, guarded}
 use Rattle.mm_sched.specs.State.{Frame, State, pending_of, at_cell}
 use Rattle.mm_sched.specs.Buffer.{is_empty, part, seen, pends}

@@ -1,22 +1,31 @@
 //! The laws of what a program's text says of its runs.
 
-ghost use Rattle.std.specs.Prelude.{◌≡◌, ◌≢◌, ℕ, ◌<◌, List, true};
+ghost use Rattle.std.specs.Prelude.{◌≡◌, ◌≢◌, ℕ, ◌<◌, List, true, Some};
 ghost use Rattle.mm_goto.specs.Bounds.{Bounding};
 ghost use Rattle.mm_goto.specs.declared.model.Model.{Model};
 ghost use Rattle.mm_goto.specs.declared.spot.Spot.{Spot};
 ghost use Rattle.mm_goto.specs.Flow.{IsSuccessor};
 ghost use Rattle.mm_goto.specs.Listing.{Listing};
-ghost use Rattle.mm_goto.specs.Sites.{Is, is_site, Po, Undrained, MustBefore};
+ghost use Rattle.mm_goto.specs.Sites.{Is, is_site, Names, Po, Undrained, MustBefore};
 ghost use Rattle.mm_goto.specs.Sourcelike.{IsSourcelike};
 ghost use Rattle.mm_goto.specs.Valid.{IsValid, code_of};
 ghost use Rattle.mm_sched.specs.declared.entry.Entry.{Entry};
 ghost use Rattle.mm_sched.specs.declared.entry.Rules.TheVariants.{Buffered};
 ghost use Rattle.mm_runkeys.specs.declared.graph.EdgeKind.TheVariants.{Program};
-ghost use Rattle.mm_runkeys.specs.Keys.{drains};
+ghost use Rattle.mm_runkeys.specs.Keys.{drains, writes};
 ghost use Rattle.mm_rungraph.specs.Edges.{by, IsIssued, IsEdge};
 ghost use Rattle.mm_rungraph.specs.RunGraph.{layout_of};
 ghost use Rattle.mm_rungraph.specs.Traces.{Trace};
-ghost use Rattle.mm_keeping.specs.Executions.{Executes};
+ghost use Rattle.mm_keeping.specs.Executions.{Executes, touched};
+
+/// An executed access is to a cell that it may name, and so is the flush of a store that it made: points-to sets are sound.
+pub fn an_access_names_its_cell()
+    ensures executed { (m : Model) (bound : Bounding) (p : Listing) (es : List Entry) (run : Trace (Buffered m bound) p es) →
+        IsSourcelike p → (k : ℕ) (s : Spot) (x : Executes p run.events k s) (c : ℕ) → touched x.act ≡ Some c → Names p s c }
+    ensures flushed { (m : Model) (bound : Bounding) (p : Listing) (es : List Entry) (run : Trace (Buffered m bound) p es) →
+        IsSourcelike p → (a f : ℕ) (s : Spot) → Executes p run.events a s → IsIssued (layout_of m bound p) run.events a f →
+        (c : ℕ) → by writes run.events f ≡ Some c → Names p s c }
+{}
 
 /// Control goes on from an executed instruction to the one that its thread executes next.
 pub fn executed_neighbours_are_successors()

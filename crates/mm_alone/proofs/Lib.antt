@@ -1,0 +1,5 @@
+mod Forms
+mod Lines
+mod Statements
+mod Whole
+pub mod Items
