@@ -1,7 +1,7 @@
 #!/usr/bin/env bash
 # Times names and types, with the peak of memory, beside gcc with -fsyntax-only on the same text: 16 MiB of declarations, of
 # statements over them and of local variables, 5,000 functions of which each calls those around it, and 65,536 cells. The
-# programs make sense and are no small programs, so `instrument` looks at their names and refuses them then.
+# programs make sense and pass a limit, so `instrument` looks at their names and refuses them then.
 set -euo pipefail
 . "$(dirname "$0")/measure.sh"
 work=$(mktemp -d)

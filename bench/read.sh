@@ -1,7 +1,7 @@
 #!/usr/bin/env bash
 # Times the reading of 16 MiB of program text, of comments and of one-character tokens, and of a program at the limit of
-# instructions, with the peak of memory; and gcc and clang with -fsyntax-only on the two programs. The texts are no small
-# programs, so `instrument` reads them whole, to the tree, and refuses them then.
+# instructions, with the peak of memory; and gcc and clang with -fsyntax-only on the two programs. The texts have
+# no main or too many sites, so `instrument` reads them whole, to the tree, and refuses them then.
 set -euo pipefail
 . "$(dirname "$0")/measure.sh"
 work=$(mktemp -d)

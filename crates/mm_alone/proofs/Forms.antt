@@ -1,6 +1,6 @@
 -- How the words of woven programs are printed.
 use Rattle.std.specs.Prelude.{codes}
-use Rattle.std.proofs.Common.{rules, ◌≡◌, ℕ, pos, List, [], ◌∷◌, Some, None, false}
+use Rattle.std.proofs.Common.{rules, ◌≡◌, ℕ, pos, [], ◌∷◌, Some, None, false}
 use Rattle.mm_goto.specs.declared.ident.Ident.{Ident}
 use Rattle.mm_goto.specs.declared.pure.Binary.{Binary}
 use Rattle.mm_tree.specs.declared.expr.Expr.{Expr}

@@ -1,5 +1,5 @@
 -- The text of the items and of the whole program.
-use Rattle.std.proofs.Common.{◌≡◌, ℕ, zero, suc, pos, ◌+◌, ◌-◌, Bool, true, false, List, [], ◌∷◌, ◌++◌, refl, sym, ◌∙◌, ap, map, arith, append_assoc, append-nil, length, Option, Some, None, if◌then◌else◌, slice_index_or}
+use Rattle.std.proofs.Common.{◌≡◌, ℕ, pos, ◌+◌, ◌-◌, Bool, false, List, [], ◌∷◌, ◌++◌, refl, sym, ◌∙◌, ap, map, append_assoc, append-nil, length, None, if◌then◌else◌, slice_index_or}
 use Rattle.std.specs.Prelude.{codes, ◌||◌, All}
 use Rattle.std.specs.List.{flat_map, list_any, range_with_len}
 use Rattle.std.specs.Fmt.{decimal}
@@ -7,27 +7,24 @@ use Rattle.std.proofs.lemmas.List.Elements.{All-head, All-tail}
 use Rattle.mm_goto.specs.declared.ident.Ident.{Ident}
 use Rattle.mm_goto.specs.declared.model.Model.{Model}
 use Rattle.mm_goto.specs.declared.program.Cell.{Cell}
-use Rattle.mm_goto.specs.declared.program.Instr.TheVariants as instr
 use Rattle.mm_goto.specs.declared.program.Thread.{Thread}
-use Rattle.mm_goto.specs.declared.shape.Head.{Head}
 use Rattle.mm_goto.specs.declared.shape.Shape.{Shape}
 use Rattle.mm_goto.specs.Bounds.{Bounding, greatest}
 use Rattle.mm_goto.specs.Listing.{Listing}
 use Rattle.mm_goto.specs.Models.{word_of}
-use Rattle.mm_goto.specs.Terms.{constant}
 use Rattle.mm_goto.specs.Value.{value_of, value_step}
 use Rattle.mm_goto.proofs.Folding.{fold_constant}
 use Rattle.mm_tree.specs.declared.item.Item.{Item}
 use Rattle.mm_tree.specs.declared.stmt.Stmt.{Stmt}
 use Rattle.mm_parse_expr.specs.declared.symbol.Symbol.TheVariants as symbol
 use Rattle.mm_parse_expr.specs.declared.symbol.Keyword.TheVariants as keyword
-use Rattle.mm_print.specs.HeadLines.{head_lines, first_line, note_line}
+use Rattle.mm_print.specs.HeadLines.{head_lines, first_line}
 use Rattle.mm_print.specs.Items.{item_pieces, items_pieces, printed_text}
 use Rattle.mm_print.specs.Pieces.{Piece, text, spaced, semicolon, keyword_text}
 use Rattle.mm_print.specs.SmallListing.{IsSmallCell, IsSmallListing}
 use Rattle.mm_print.specs.SmallText as small
 use Rattle.mm_print.specs.SmallText.{global_text, locals_text, code_text, main_text, head_text, small_text, no_thread}
-use Rattle.mm_print.specs.Statements.{Layout, layout, lines}
+use Rattle.mm_print.specs.Statements.{layout, lines}
 use Rattle.mm_print.specs.Expressions.{expr_pieces}
 use Rattle.mm_words.specs.Words as words
 use Rattle.mm_words.specs.Words.{num, number}

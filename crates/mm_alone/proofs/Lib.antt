@@ -3,3 +3,5 @@ mod Lines
 mod Statements
 mod Whole
 pub mod Items
+pub mod Planned
+pub mod Unbuffered

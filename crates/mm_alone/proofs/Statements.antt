@@ -1,5 +1,5 @@
 -- The text of each statement that a woven program of main alone has.
-use Rattle.std.proofs.Common.{◌≡◌, ℕ, suc, pos, append-nil, ◌+◌, List, [], ◌∷◌, ◌++◌, refl, sym, ◌∙◌, ap, map, append_assoc, arith}
+use Rattle.std.proofs.Common.{◌≡◌, ℕ, append-nil, List, [], ◌∷◌, ◌++◌, ◌∙◌, ap, append_assoc, arith}
 use Rattle.std.specs.Prelude.{codes}
 use Rattle.std.specs.Fmt.{decimal}
 use Rattle.std.proofs.lemmas.Fmt.{decimal_digit}
@@ -9,7 +9,7 @@ use Rattle.mm_tree.specs.declared.expr.Expr.{Expr}
 use Rattle.mm_tree.specs.declared.stmt.Stmt.{Stmt}
 use Rattle.mm_parse_expr.specs.declared.symbol.Symbol.TheVariants as symbol
 use Rattle.mm_parse_expr.specs.declared.symbol.Keyword.TheVariants as keyword
-use Rattle.mm_print.specs.Pieces.{Piece, text, semicolon, spaced, commas, called, keyword_text, operator_text}
+use Rattle.mm_print.specs.Pieces.{Piece, text, semicolon, spaced, keyword_text}
 use Rattle.mm_print.specs.Expressions.{Written, written, expr_pieces, operand}
 use Rattle.mm_print.specs.Statements.{Layout, layout, whole}
 use Rattle.mm_words.specs.Words.{num, var, bin, numbered, assign, declare, assert, go_to, return, label}

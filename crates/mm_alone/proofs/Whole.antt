@@ -1,12 +1,11 @@
 -- The woven program of a small program, line by line.
-use Rattle.std.proofs.Common.{◌≡◌, ◌≢◌, ℕ, zero, suc, pos, ◌+◌, ◌<◌, ◌≤◌, Bool, true, false, List, [], ◌∷◌, ◌++◌, refl, sym, ◌∙◌, ap, subst, map, arith, append_assoc, append-nil, length, Option, Some, None, if◌then◌else◌}
-use Rattle.std.specs.Prelude.{codes, ◌||◌, All, slice_get, slice_index_or, option_map, unwrap_or}
-use Rattle.std.specs.List.{flat_map, list_any, range_with_len, AllByRecursion}
-use Rattle.std.specs.Fmt.{decimal, signed_decimal}
+use Rattle.std.proofs.Common.{◌≡◌, ℕ, zero, suc, pos, ◌+◌, Bool, true, false, List, [], ◌∷◌, ◌++◌, refl, sym, ◌∙◌, ap, map, arith, append_assoc, append-nil, Option, Some, None, if◌then◌else◌}
+use Rattle.std.specs.Prelude.{codes, All, slice_get, slice_index_or, option_map, unwrap_or}
+use Rattle.std.specs.List.{list_any, range_with_len}
+use Rattle.std.specs.Fmt.{decimal}
 use Rattle.std.proofs.lemmas.Bool.{true≢false}
 use Rattle.std.proofs.lemmas.List.Elements.{All-head, All-tail}
 use Rattle.std.proofs.lemmas.List.FromFn.{map-range_with_len_more}
-use Rattle.mm_goto.specs.declared.ident.Ident.{Ident}
 use Rattle.mm_goto.specs.declared.pure.Pure.{Pure}
 use Rattle.mm_goto.specs.declared.pure.Binary.TheVariants as binary
 use Rattle.mm_goto.specs.declared.pure.Pure.TheOpen as pure
@@ -17,23 +16,23 @@ use Rattle.mm_goto.specs.declared.program.Instr.TheVariants as instr
 use Rattle.mm_goto.specs.declared.program.Thread.{Thread}
 use Rattle.mm_goto.specs.declared.shape.Shape.{Shape}
 use Rattle.mm_goto.specs.Listing.{Listing}
-use Rattle.mm_goto.specs.Terms.{constant, the_local, combined}
+use Rattle.mm_goto.specs.Terms.{constant, the_local}
 use Rattle.mm_goto.proofs.Folding.{fold_constant, fold_local, fold_combined}
 use Rattle.mm_tree.specs.declared.expr.Expr.{Expr}
 use Rattle.mm_tree.specs.declared.stmt.Stmt.{Stmt}
-use Rattle.mm_print.specs.SmallListing.{IsSmallExpr, IsSmallInstr, IsSmallCell, IsSmallListing, number, local, equal, load, store, assert, jump}
+use Rattle.mm_print.specs.SmallListing.{IsSmallExpr, IsSmallInstr, number, local, equal, load, store, assert, jump}
 use Rattle.mm_print.specs.SmallText as small
 use Rattle.mm_print.specs.SmallText.{name_in, cell_text, instr_text, line_text, code_text, locals_text, declaration_text}
-use Rattle.mm_print.specs.Statements.{Layout, layout, lines}
+use Rattle.mm_print.specs.Statements.{layout}
 use Rattle.mm_words.specs.Words as words
 use Rattle.mm_words.specs.Words.{num, var, elem, bin, declare, assign_elem}
 use Rattle.mm_templates.specs.Names.{local_name, label_name}
 use Rattle.mm_templates.specs.Expressions.{printed, printed_step, cell_number}
 use Rattle.mm_helpers.specs.Helpers.{wm_mem}
 use Rattle.mm_templates.specs.Homes.{cell_name, read, write, read_by_name, write_by_name}
-use Rattle.mm_templates.specs.Instructions.{plain, woven_instr}
+use Rattle.mm_templates.specs.Instructions.{woven_instr}
 use Rattle.mm_instr.specs.Woven.{woven_code}
-use Rattle.mm_alone.proofs.Lines.{line_of, ended_lines, lines_end}
+use Rattle.mm_alone.proofs.Lines.{line_of, ended_lines}
 use Rattle.mm_alone.proofs.Statements.{shown, told, shown_num, shown_var, shown_equal, told_assign, told_declare, told_assert, told_goto, told_return, told_label}
 
 -- ---- expressions

@@ -1,1 +1,9 @@
+pub mod Flushing
+pub mod Gathering
 pub mod Noting
+pub mod Pushing
+pub mod Standing
+pub mod Takes
+pub mod Numbered
+pub mod Deciding
+pub mod Fitting

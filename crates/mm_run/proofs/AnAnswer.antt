@@ -2,7 +2,7 @@
 use Rattle.std.proofs.Common.{◌≡◌, ◌⊎◌, inl, inr, ⊎_elim, ℕ, zero, suc, ◌+◌, ◌<◌, ◌≤◌, Bool, true, false, List, [], ◌∷◌, ◌++◌, length, take, drop, map, codes, Option, Some, None, option_and_then, refl, sym, ◌∙◌, ap, subst, arith, append_assoc, length-append, IsUtf8}
 use Rattle.std.specs.Str.{chars, is_utf8}
 use Rattle.std.proofs.lemmas.Bool.{cases_lt}
-use Rattle.std.specs.Prelude.{slice_get}
+use Rattle.std.specs.Prelude.{◌^◌, slice_get}
 use Rattle.std.proofs.lemmas.List.{length-drop, length-map, length-take-le, take_all, take-append-drop}
 use Rattle.std.proofs.lemmas.Str.{IsUtf8-from_is_utf8, is_utf8-from_IsUtf8, IsUtf8-nil}
 use Rattle.mm_goto.specs.declared.ident.At.{At}
@@ -10,6 +10,7 @@ use Rattle.mm_goto.specs.declared.model.Model.{Model}
 use Rattle.mm_goto.specs.Bounds.{Bounding}
 use Rattle.mm_goto.specs.Listing.{Listing}
 use Rattle.mm_goto.specs.Place.{place_after, start}
+use Rattle.mm_goto.specs.Sites.{sites}
 use Rattle.mm_goto.specs.Valid.{IsValid}
 use Rattle.mm_lexer.specs.declared.token.Token.{Token}
 use Rattle.mm_lexer.specs.declared.token.LexFault.{LexFault}
@@ -49,16 +50,16 @@ use Rattle.mm_flow.specs.Flow.{Placed, lay}
 use Rattle.mm_flow.specs.Programs.{all_to, end_of, flow_of, laid, limit_passed, locals_of, parts_of, program_of, thread_of, threads_in}
 use Rattle.mm_goto.specs.declared.ident.Ident.{Ident}
 use Rattle.mm_goto.specs.declared.program.Thread.{Thread}
-use Rattle.mm_small.specs.SmallProgram.{IsSmall}
-use Rattle.mm_small.proofs.Deciding.{small_or_not}
-use Rattle.mm_small.proofs.Validity.{listing_valid}
 use Rattle.mm_grammar.specs.Meaning.{IsTreeOf}
-use Rattle.mm_print.specs.SmallText.{small_text}
+use Rattle.mm_print.specs.Items.{printed_text}
+use Rattle.mm_instr.specs.Woven.{woven}
+use Rattle.mm_planned.proofs.Existing.{a_plan}
+use Rattle.mm_run.proofs.Sound.{valid_program}
 use Rattle.mm_run.specs.declared.command.Settings.{Settings}
 use Rattle.mm_run.specs.declared.command.Settings.TheVariants.{Instrument, Cycles, ReplaySc, Replay}
 use Rattle.mm_run.specs.declared.status.Status.{Status}
 use Rattle.mm_run.specs.declared.status.Status.TheVariants.{Done, Refused}
-use Rattle.mm_run.specs.Answer.{AnswersParts, AnswersProgram, AnswersText, AnswersWhole, PrintsWoven, Refusing, Replays, ReportsCycles}
+use Rattle.mm_run.specs.Answer.{AnswersParts, AnswersProgram, AnswersText, AnswersWhole, IsTooLargeFor, IsWoven, PrintsWoven, Refusing, Replays, ReportsCycles}
 use Rattle.mm_names.specs.declared.refusal.NameFault.{NameFault}
 use Rattle.mm_names.specs.declared.refusal.NameFault.TheVariants as name_fault
 use Rattle.mm_names.specs.Programs.{IsAccepted as MakesSense, IsRefused as IsNameFault, no_main, at_fault, refusal_of}
@@ -68,10 +69,11 @@ use Rattle.mm_names.proofs.Decided.{each}
 use Rattle.mm_run.specs.Lines.{refusal_line, verdict_line}
 use Rattle.mm_run.specs.Outcome.{IsStuckBehind, Outcome, TellsVerdict}
 use Rattle.mm_run.specs.Parts.{IsNotUtf8, IsParting, IsSplit, LacksPart}
-use Rattle.mm_run.specs.Program.{Intake, IsNoProgram, IsProgramText, IsRefused, any, limit_words, run_by, side_for, small_source}
+use Rattle.mm_run.specs.Program.{IsNoProgram, IsProgramText, limit_words, side_for}
 use Rattle.mm_run.specs.Settings.{IsThere}
-use Rattle.mm_run.proofs.Alike.{is_listing, is_woven}
-use Rattle.mm_run.proofs.AReport.{HasPlaces, an_answer_of_cycles}
+use Rattle.mm_run.proofs.Alike.{is_alike}
+use Rattle.mm_planned.proofs.SomeHead.{HasPlaces}
+use Rattle.mm_run.proofs.AReport.{an_answer_of_cycles}
 
 -- ---- a text, or where it is none
 
@@ -186,10 +188,6 @@ module _ (side : Side) (text : List ℕ) (tokens : List Token) (cut : AreTokens 
 
 -- ---- a program, or a refusal
 
--- a text is refused
-abbrev HasRefusal : Intake → List ℕ → Type 0
-HasRefusal taken text = (at : At) × (why : List ℕ) × IsRefused taken text at why
-
 -- a text is no program
 abbrev HasNone : Side → List ℕ → Type 0
 HasNone side text = (at : At) × (why : List ℕ) × IsNoProgram side text at why
@@ -267,17 +265,9 @@ known side text = ⊎_elim
     (λ f. inr (unlexed_refuses side text f.0 f.1))
     (tokens_and_fault text)
 
-of_any : (side : Side) (text : List ℕ) → IsKnown side text → ((p : Listing) × IsProgramText (any side) text p) ⊎ HasRefusal (any side) text
-of_any side text (inl k) = inl (program_of side k.0, record { tree = k.0; read = k.1; sense = k.2; within = k.3; built = tt; flat = refl })
-of_any side text (inr n) = inr (n.0, n.1, IsRefused.no_program n.2)
-
-small_or_refused : (text : List ℕ) (tree : Tree) → IsTreeOf Source text tree → MakesSense Source tree → limit_passed Source tree ≡ None → IsSmall tree ⊎ (IsSmall tree → ⊥) → ((p : Listing) × IsProgramText small_source text p) ⊎ HasRefusal small_source text
-small_or_refused text tree read sense within (inl s) = inl (program_of Source tree, record { tree = tree; read = read; sense = sense; within = within; built = s; flat = refl })
-small_or_refused text tree read sense within (inr n) = inr (start, codes "not built", IsRefused.not_built (record { tree = tree; read = read; sense = sense; within = within; not_built = n }))
-
-of_small : (text : List ℕ) → IsKnown Source text → ((p : Listing) × IsProgramText small_source text p) ⊎ HasRefusal small_source text
-of_small text (inl k) = small_or_refused text k.0 k.1 k.2 k.3 (small_or_not k.0)
-of_small text (inr n) = inr (n.0, n.1, IsRefused.no_program n.2)
+of_any : (side : Side) (text : List ℕ) → IsKnown side text → ((p : Listing) × IsProgramText side text p) ⊎ HasNone side text
+of_any side text (inl k) = inl (program_of side k.0, record { tree = k.0; read = k.1; sense = k.2; within = k.3; flat = refl })
+of_any side text (inr n) = inr n
 
 -- ---- a run, or an entry that is not enabled
 
@@ -324,16 +314,26 @@ module _ (r : Rules) (p : Listing) where
 abbrev IsAnswered : (Status → List ℕ → Type 0) → Type 0
 IsAnswered Answers = (status : Status) × (out : List ℕ) × Answers status out
 
-woven_answers : (m : Model) (bound : Bounding) → 1 ≤ bound → (input : List ℕ) → IsAnswered (AnswersProgram small_source (PrintsWoven m bound) input)
-woven_answers m bound b input = ⊎_elim
-    (λ h. (Done, small_text h.0 m bound, AnswersProgram.program h.0 h.1 (PrintsWoven.done (is_woven h.0 m bound (small_text h.0 m bound) (valid h.0 h.1) b refl input h.1))))
-    (λ h. (Refused, refusal_line h.0 h.1, AnswersProgram.refused (Refusing.refused h.0 h.1 h.2)))
-    (of_small input (known Source input))
-  where
-    valid : (p : Listing) → IsProgramText small_source input p → IsValid p
-    valid p h = subst IsValid (sym (is_listing h.tree p h.built h.flat)) (listing_valid h.built.small h.built.within)
+-- a valid program is too large, or has a woven program
+an_answer_of_instrument : (m : Model) (bound : Bounding) → 1 ≤ bound → (p : Listing) → IsValid p → IsAnswered (PrintsWoven m bound p)
+an_answer_of_instrument m bound b p valid = ⊎_elim
+    (λ l. (_, _, PrintsWoven.too_large (IsTooLargeFor.too_many_sites l)))
+    (λ few. ⊎_elim
+    (λ l. (_, _, PrintsWoven.too_large (IsTooLargeFor.too_many_cells (few, l))))
+    (λ small.
+    let made = a_plan p m bound valid in
+    let w : IsWoven p m bound (printed_text (woven p made.0) made.1) = record { shape = made.0; head = made.1; plan = made.2; text = refl } in
+    (Done, printed_text (woven p made.0) made.1, PrintsWoven.done (record { sites = few; cells = small }) w (is_alike p m bound _ valid b w)))
+    (cases_lt 256 (length p.cells)))
+    (cases_lt 1024 (length (sites p)))
 
-parts_answer : (r : Rules) (input : List ℕ) → IsAnswered (AnswersParts (run_by r) (Replays r) input)
+woven_answers : (m : Model) (bound : Bounding) → 1 ≤ bound → (input : List ℕ) → IsUtf8 input → length input < 2 ^ 32 → IsAnswered (AnswersProgram Source (PrintsWoven m bound) input)
+woven_answers m bound b input utf8 short = ⊎_elim
+    (λ h. let a = an_answer_of_instrument m bound b h.0 (valid_program Source input h.0 utf8 short h.1) in (a.0, a.1, AnswersProgram.program h.0 h.1 a.2))
+    (λ h. (Refused, refusal_line h.0 h.1, AnswersProgram.refused (Refusing.refused h.0 h.1 h.2)))
+    (of_any Source input (known Source input))
+
+parts_answer : (r : Rules) (input : List ℕ) → IsAnswered (AnswersParts (side_for r) (Replays r) input)
 parts_answer r input = ⊎_elim
     (λ s. ⊎_elim
     (λ h. let a = replay_answers r h.0 s.1 in (a.0, a.1, AnswersParts.both s.0 s.1 h.0 s.2 h.1 a.2))
@@ -355,20 +355,20 @@ has_places side tree t thread e = by (threads_in (parts_of side tree.items)) t e
     by (g ∷ fs) zero f = let same : thread_of (parts_of side tree.items) tree.items g ≡ thread = cc in subst (λ (x : Thread). length x.places ≡ length x.code) same (laid_places (locals_of (parts_of side tree.items) tree.items g) (lay (all_to (end_of (parts_of side tree.items) tree.items g)) (flow_of (parts_of side tree.items) tree.items g) 0))
     by (g ∷ fs) (suc t) f = by fs t f
 
-report_answers : (m : Model) (bound : Bounding) (input : List ℕ) → IsAnswered (AnswersProgram (any Source) (ReportsCycles m bound) input)
+report_answers : (m : Model) (bound : Bounding) (input : List ℕ) → IsAnswered (AnswersProgram Source (ReportsCycles m bound) input)
 report_answers m bound input = ⊎_elim
     (λ h. let a = an_answer_of_cycles h.0 (subst HasPlaces (sym h.1.flat) (has_places Source h.1.tree)) m bound in (a.0, a.1, AnswersProgram.program h.0 h.1 a.2))
     (λ h. (Refused, refusal_line h.0 h.1, AnswersProgram.refused (Refusing.refused h.0 h.1 h.2)))
     (of_any Source input (known Source input))
 
-text_answers : (s : Settings) → IsThere s → (input : List ℕ) → IsAnswered (AnswersText s input)
-text_answers (Instrument m bound) t input = woven_answers m bound t.1.0 input
-text_answers (Cycles m bound) t input = report_answers m bound input
-text_answers ReplaySc t input = parts_answer Sc input
-text_answers (Replay m bound) t input = parts_answer (Buffered m bound) input
+text_answers : (s : Settings) → IsThere s → (input : List ℕ) → IsUtf8 input → length input < 2 ^ 32 → IsAnswered (AnswersText s input)
+text_answers (Instrument m bound) t input utf8 short = woven_answers m bound t.0 input utf8 short
+text_answers (Cycles m bound) t input utf8 short = report_answers m bound input
+text_answers ReplaySc t input utf8 short = parts_answer Sc input
+text_answers (Replay m bound) t input utf8 short = parts_answer (Buffered m bound) input
 
-pub an_answer : (s : Settings) → IsThere s → (input : List ℕ) → IsAnswered (AnswersWhole s input)
-an_answer s t input = ⊎_elim
-    (λ u. let a = text_answers s t input in (a.0, a.1, AnswersWhole.text u a.2))
+pub an_answer : (s : Settings) → IsThere s → (input : List ℕ) → length input ≤ 16777216 → IsAnswered (AnswersWhole s input)
+an_answer s t input short = ⊎_elim
+    (λ u. let a = text_answers s t input u (omega (arith, short)) in (a.0, a.1, AnswersWhole.text u a.2))
     (λ n. (Refused, refusal_line n.0 (codes "not UTF-8"), AnswersWhole.no_text n.0 n.1))
     (text_or_not input)

@@ -12,16 +12,17 @@ use Rattle.mm_run.specs.declared.command.Settings.{Settings}
 use Rattle.mm_run.specs.declared.command.Settings.TheVariants.{Instrument, Cycles, ReplaySc, Replay}
 use Rattle.mm_run.specs.declared.status.Status.{Status}
 use Rattle.mm_run.specs.declared.status.Status.TheVariants.{Done, Words, ReadFault, TooLong, Refused, BadSchedule, Stuck, NotFailing, WriteFault, NoMemory}
+use Rattle.mm_tree.specs.declared.side.Side.{Side}
 use Rattle.mm_tree.specs.declared.side.Side.TheVariants.{Source}
-use Rattle.mm_run.specs.Program.{Intake, any, run_by, small_source}
+use Rattle.mm_run.specs.Program.{side_for}
 use Rattle.mm_run.specs.Outcome.{Outcome, TellsVerdict}
-use Rattle.mm_run.specs.Answer.{AnswersParts, AnswersProgram, AnswersText, AnswersWhole, PrintsWoven, Refusing, Replays, ReportsCycles, Responds, IsOfInput, Writes, BreaksOff, Ends}
+use Rattle.mm_run.specs.Answer.{AnswersParts, AnswersProgram, AnswersText, AnswersWhole, IsTooLargeFor, PrintsWoven, Refusing, Replays, ReportsCycles, Responds, IsOfInput, Writes, BreaksOff, Ends}
 use Rattle.mm_run.specs.Output.{AppendsPart}
 
 -- ---- what is answered is of an input, where what a command gives at the end of its work is
 
-of_refusal : (taken : Intake) (text : List ℕ) (status : Status) (out : List ℕ) → Refusing taken text status out → IsOfInput status
-of_refusal taken text status out (Refusing.refused at why h) = tt
+of_refusal : (side : Side) (text : List ℕ) (status : Status) (out : List ℕ) → Refusing side text status out → IsOfInput status
+of_refusal side text status out (Refusing.refused at why h) = tt
 
 of_verdict : (es : List Entry) (last : State) (status : Status) (out : List ℕ) → TellsVerdict es last status out → IsOfInput status
 of_verdict es last status out TellsVerdict.verdict = tt
@@ -31,25 +32,29 @@ of_replay r p schedule status out (Outcome.bad k s) = tt
 of_replay r p schedule status out (Outcome.stuck lines k s e) = tt
 of_replay r p schedule status out (Outcome.ends lines last s e v) = of_verdict (entries_in lines) last status out v
 
-of_parts : (r : Rules) (input : List ℕ) (status : Status) (out : List ℕ) → AnswersParts (run_by r) (Replays r) input status out → IsOfInput status
+of_parts : (r : Rules) (input : List ℕ) (status : Status) (out : List ℕ) → AnswersParts (side_for r) (Replays r) input status out → IsOfInput status
 of_parts r input status out (AnswersParts.one_part l) = tt
-of_parts r input status out (AnswersParts.refused program schedule s h) = of_refusal (run_by r program) program status out h
+of_parts r input status out (AnswersParts.refused program schedule s h) = of_refusal (side_for r program) program status out h
 of_parts r input status out (AnswersParts.both program schedule p s m h) = of_replay r p schedule status out h
 
-of_woven : (m : Model) (bound : Bounding) (p : Listing) (status : Status) (out : List ℕ) → PrintsWoven m bound p status out → IsOfInput status
-of_woven m bound p status out (PrintsWoven.done w) = tt
+of_too_large : (p : Listing) (status : Status) (out : List ℕ) → IsTooLargeFor p status out → IsOfInput status
+of_too_large p status out (IsTooLargeFor.too_many_sites h) = tt
+of_too_large p status out (IsTooLargeFor.too_many_cells h) = tt
 
-of_instrument : (m : Model) (bound : Bounding) (input : List ℕ) (status : Status) (out : List ℕ) → AnswersProgram small_source (PrintsWoven m bound) input status out → IsOfInput status
-of_instrument m bound input status out (AnswersProgram.refused h) = of_refusal small_source input status out h
+of_woven : (m : Model) (bound : Bounding) (p : Listing) (status : Status) (out : List ℕ) → PrintsWoven m bound p status out → IsOfInput status
+of_woven m bound p status out (PrintsWoven.too_large h) = of_too_large p status out h
+of_woven m bound p status out (PrintsWoven.done s w u) = tt
+
+of_instrument : (m : Model) (bound : Bounding) (input : List ℕ) (status : Status) (out : List ℕ) → AnswersProgram Source (PrintsWoven m bound) input status out → IsOfInput status
+of_instrument m bound input status out (AnswersProgram.refused h) = of_refusal Source input status out h
 of_instrument m bound input status out (AnswersProgram.program p h w) = of_woven m bound p status out w
 
 of_report : (m : Model) (bound : Bounding) (p : Listing) (status : Status) (out : List ℕ) → ReportsCycles m bound p status out → IsOfInput status
-of_report m bound p status out (ReportsCycles.too_many_sites h) = tt
-of_report m bound p status out (ReportsCycles.too_many_cells h) = tt
+of_report m bound p status out (ReportsCycles.too_large h) = of_too_large p status out h
 of_report m bound p status out (ReportsCycles.reported head s h r) = tt
 
-of_cycles : (m : Model) (bound : Bounding) (input : List ℕ) (status : Status) (out : List ℕ) → AnswersProgram (any Source) (ReportsCycles m bound) input status out → IsOfInput status
-of_cycles m bound input status out (AnswersProgram.refused h) = of_refusal (any Source) input status out h
+of_cycles : (m : Model) (bound : Bounding) (input : List ℕ) (status : Status) (out : List ℕ) → AnswersProgram Source (ReportsCycles m bound) input status out → IsOfInput status
+of_cycles m bound input status out (AnswersProgram.refused h) = of_refusal Source input status out h
 of_cycles m bound input status out (AnswersProgram.program p h r) = of_report m bound p status out r
 
 of_text : (s : Settings) (input : List ℕ) (status : Status) (out : List ℕ) → AnswersText s input status out → IsOfInput status

@@ -2,8 +2,6 @@
 use Rattle.std.proofs.Common.{◌≡◌, sym, ℕ, List, codes, Option, IsUtf8, Result, Ok, Err, IfOk, IfErr, IsErr, IsErrAnd, subst}
 use Rattle.std.specs.Str.{chars}
 use Rattle.mm_goto.specs.declared.ident.At.{At}
-use Rattle.mm_goto.specs.declared.model.Model.{Model}
-use Rattle.mm_goto.specs.Bounds.{Bounding}
 use Rattle.mm_goto.specs.Listing.{Listing}
 use Rattle.mm_goto.specs.Place.{place_after, start}
 use Rattle.mm_graph.specs.declared.fault.GraphFault.{GraphFault}
@@ -13,12 +11,12 @@ use Rattle.mm_sched.specs.declared.entry.Rules.{Rules}
 use Rattle.mm_run.specs.declared.command.Settings.{Settings}
 use Rattle.mm_run.specs.declared.command.Settings.TheVariants.{Instrument, Cycles, ReplaySc, Replay}
 use Rattle.mm_run.specs.declared.status.Status.{Status}
-use Rattle.mm_run.specs.declared.status.Status.TheVariants.{Done, Refused, TooLong}
+use Rattle.mm_run.specs.declared.status.Status.TheVariants.{Refused, TooLong}
 use Rattle.mm_run.specs.Input.{IsWhole, IsTooLong}
 use Rattle.mm_run.specs.Lines.{refusal_line}
 use Rattle.mm_run.specs.Parts.{IsNotUtf8, LacksPart}
-use Rattle.mm_run.specs.Program.{Intake, IsProgramText, IsRefused, run_by, small_source}
-use Rattle.mm_run.specs.Answer.{AnswersInput, AnswersParts, AnswersProgram, AnswersText, AnswersWhole, IsWoven, PrintsWoven, Refusing, Replays, ReportsCycles, Responds}
+use Rattle.mm_run.specs.Program.{side_for}
+use Rattle.mm_run.specs.Answer.{AnswersInput, AnswersParts, AnswersText, AnswersWhole, IsTooLargeFor, Replays, Responds}
 
 pub if_ok : {A E : Type 0} (P Q : A → Type 0) (r : Result A E) → IfOk r P → ((a : A) → P a → Q a) → IfOk r Q
 if_ok P Q (Ok a) h f = f a h
@@ -43,14 +41,11 @@ input_responds ReplaySc old new status out h = h
 input_responds (Replay m bound) old new status out h = h
 
 module _ (status : Status) (out : List ℕ) where
-  pub prints_woven : (m : Model) (bound : Bounding) (input : List ℕ) (p : Listing) → IsProgramText small_source input p → IsWoven p m bound out → status ≡ Done → AnswersProgram small_source (PrintsWoven m bound) input status out
-  prints_woven m bound input p h w s = rw s (AnswersProgram.program p h (PrintsWoven.done w))
+  pub sites_told : (p : Listing) (fault : GraphFault) (at : At) → fault ≡ TooManySites → at ≡ start → status ≡ Refused → out ≡ refusal_line at (codes "too many sites") → IsTooLarge p fault → IsTooLargeFor p status out
+  sites_told p fault at f e s o h = rw (s, o, e) (IsTooLargeFor.too_many_sites (subst (IsTooLarge p) f h))
 
-  pub sites_told : (m : Model) (bound : Bounding) (p : Listing) (fault : GraphFault) (at : At) → fault ≡ TooManySites → at ≡ start → status ≡ Refused → out ≡ refusal_line at (codes "too many sites") → IsTooLarge p fault → ReportsCycles m bound p status out
-  sites_told m bound p fault at f e s o h = rw (s, o, e) (ReportsCycles.too_many_sites (subst (IsTooLarge p) f h))
-
-  pub cells_told : (m : Model) (bound : Bounding) (p : Listing) (fault : GraphFault) (at : At) → fault ≡ TooManyCells → at ≡ start → status ≡ Refused → out ≡ refusal_line at (codes "too many shared cells") → IsTooLarge p fault → ReportsCycles m bound p status out
-  cells_told m bound p fault at f e s o h = rw (s, o, e) (ReportsCycles.too_many_cells (subst (IsTooLarge p) f h))
+  pub cells_told : (p : Listing) (fault : GraphFault) (at : At) → fault ≡ TooManyCells → at ≡ start → status ≡ Refused → out ≡ refusal_line at (codes "too many shared cells") → IsTooLarge p fault → IsTooLargeFor p status out
+  cells_told p fault at f e s o h = rw (s, o, e) (IsTooLargeFor.too_many_cells (subst (IsTooLarge p) f h))
 
   pub no_text : (s : Settings) (input : List ℕ) (at : At) → IsNotUtf8 input at → status ≡ Refused → out ≡ refusal_line at (codes "not UTF-8") → AnswersWhole s input status out
   no_text s input at h t o = rw (t, o) (AnswersWhole.no_text at h)
@@ -58,7 +53,7 @@ module _ (status : Status) (out : List ℕ) where
   pub has_text : (s : Settings) (input text : List ℕ) → IsUtf8 input → text ≡ input → AnswersText s text status out → AnswersWhole s input status out
   has_text s input text u e h = AnswersWhole.text u (rw (sym e) h)
 
-  pub one_part : (r : Rules) (input : List ℕ) → LacksPart input → status ≡ Refused → out ≡ refusal_line (place_after (chars input)) (codes "missing part") → AnswersParts (run_by r) (Replays r) input status out
+  pub one_part : (r : Rules) (input : List ℕ) → LacksPart input → status ≡ Refused → out ≡ refusal_line (place_after (chars input)) (codes "missing part") → AnswersParts (side_for r) (Replays r) input status out
   one_part r input h s o = rw (s, o) (AnswersParts.one_part h)
 
   pub responds_whole : (s : Settings) (old new : Option (List ℕ)) (bytes read : List ℕ) → IsWhole old new bytes → read ≡ bytes → AnswersWhole s read status out → Responds s old new status out

@@ -22,13 +22,12 @@ use Rattle.mm_run.specs.declared.status.Status.{Status}
 use Rattle.mm_run.specs.Accepted.{HasParts, IsAccepted, IsRun}
 use Rattle.mm_run.specs.Input.{IsTooLong}
 use Rattle.mm_run.specs.Parts.{IsSplit}
-use Rattle.mm_graph.specs.declared.fault.GraphFault.TheVariants.{TooManySites, TooManyCells}
 use Rattle.mm_graph.specs.Graphs.{IsSmall}
-use Rattle.mm_graph.specs.Refusals.{IsRefused as IsTooLarge}
+use Rattle.mm_tree.specs.declared.side.Side.{Side}
 use Rattle.mm_tree.specs.declared.side.Side.TheVariants.{Source}
-use Rattle.mm_run.specs.Program.{Intake, IsProgramText, any, run_by, small_source}
+use Rattle.mm_run.specs.Program.{IsProgramText, side_for}
 use Rattle.mm_run.specs.Outcome.{IsStuckBehind, Outcome, TellsVerdict}
-use Rattle.mm_run.specs.Answer.{AnswersInput, AnswersParts, AnswersProgram, AnswersText, AnswersWhole, PrintsWoven, Replays, ReportsCycles, Responds, IsDoneOrKept}
+use Rattle.mm_run.specs.Answer.{AnswersInput, AnswersParts, AnswersProgram, AnswersText, AnswersWhole, IsTooLargeFor, PrintsWoven, Replays, ReportsCycles, Responds, IsDoneOrKept}
 use Rattle.mm_run.proofs.Answering.{input_responds}
 use Rattle.mm_run.proofs.Refused.{one_program, not_refused}
 
@@ -76,7 +75,7 @@ no_other_end r p from last es k e s =
     let none : run r p from es ≡ None = ahead ∙ ap (λ (o : Option State). option_and_then (λ mid. run r p mid s.behind) o) s.stuck in
     cc
 
-module _ (taken : List ℕ → Intake) (r : Rules) (input : List ℕ) (h : IsRun taken r input) where
+module _ (side_of : List ℕ → Side) (r : Rules) (input : List ℕ) (h : IsRun side_of r input) where
   replayed : (p : Listing) (schedule : List ℕ) (status : Status) (out : List ℕ) → p ≡ h.listing → schedule ≡ h.schedule → Replays r p schedule status out → IsDoneOrKept status
   replayed p schedule status out same_program same_schedule (Outcome.ends lines last s e v) = told (entries_in lines) last status out v
     where
@@ -87,46 +86,44 @@ module _ (taken : List ℕ → Intake) (r : Rules) (input : List ℕ) (h : IsRun
       let same : lines ≡ h.lines = one_schedule h.schedule lines h.lines (rw (sym same_schedule) s) h.fits in
       absurd (no_other_end r h.listing (initial h.listing) h.last (entries_in h.lines) k h.runs (rw (sym same, sym same_program) e))
 
-  parts : (status : Status) (out : List ℕ) → AnswersParts taken (Replays r) input status out → IsDoneOrKept status
+  parts : (status : Status) (out : List ℕ) → AnswersParts side_of (Replays r) input status out → IsDoneOrKept status
   parts status out (AnswersParts.one_part lacks) = absurd (lacks _ h.split.parting)
   parts status out (AnswersParts.refused program schedule s no_program) =
       let same : program ≡ h.program = one_front input program h.program schedule h.schedule s h.split in
-      absurd (not_refused (taken h.program) h.program h.listing h.accepted status out (rw (sym same) no_program))
+      absurd (not_refused (side_of h.program) h.program h.listing h.accepted status out (rw (sym same) no_program))
   parts status out (AnswersParts.both program schedule p s small e) =
       let same : program ≡ h.program = one_front input program h.program schedule h.schedule s h.split in
-      replayed p schedule status out (one_program (taken h.program) h.program p h.listing (rw (sym same) small) h.accepted) (one_back input program h.program schedule h.schedule s h.split) e
-
-instrumented : (m : Model) (bound : Bounding) (input : List ℕ) (p : Listing) → IsProgramText small_source input p → (status : Status) (out : List ℕ) → AnswersProgram small_source (PrintsWoven m bound) input status out → IsDoneOrKept status
-instrumented m bound input p h status out (AnswersProgram.refused r) = absurd (not_refused small_source input p h status out r)
-instrumented m bound input p h status out (AnswersProgram.program q k w) = printed q status out w
-  where
-    printed : (q : Listing) (status : Status) (out : List ℕ) → PrintsWoven m bound q status out → IsDoneOrKept status
-    printed q status out (PrintsWoven.done w) = tt
+      replayed p schedule status out (one_program (side_of h.program) h.program p h.listing (rw (sym same) small) h.accepted) (one_back input program h.program schedule h.schedule s h.split) e
 
 -- ---- the program has a graph
 
-pub small_enough : (p : Listing) → IsSmall p → IsTooLarge p TooManySites → ⊥
-small_enough p s h = omega (arith, s.sites, h)
+pub not_too_large : (p : Listing) → IsSmall p → (status : Status) (out : List ℕ) → IsTooLargeFor p status out → ⊥
+not_too_large p s status out (IsTooLargeFor.too_many_sites h) = omega (arith, s.sites, h)
+not_too_large p s status out (IsTooLargeFor.too_many_cells h) = omega (arith, s.cells, h.1)
 
-pub few_enough : (p : Listing) → IsSmall p → IsTooLarge p TooManyCells → ⊥
-few_enough p s h = omega (arith, s.cells, h.1)
+instrumented : (m : Model) (bound : Bounding) (input : List ℕ) (p : Listing) → IsProgramText Source input p → IsSmall p → (status : Status) (out : List ℕ) → AnswersProgram Source (PrintsWoven m bound) input status out → IsDoneOrKept status
+instrumented m bound input p h s status out (AnswersProgram.refused r) = absurd (not_refused Source input p h status out r)
+instrumented m bound input p h s status out (AnswersProgram.program q k w) = printed q status out w (subst IsSmall (one_program Source input p q h k) s)
+  where
+    printed : (q : Listing) (status : Status) (out : List ℕ) → PrintsWoven m bound q status out → IsSmall q → IsDoneOrKept status
+    printed q status out (PrintsWoven.too_large n) s = absurd (not_too_large q s status out n)
+    printed q status out (PrintsWoven.done i w u) s = tt
 
-analysed : (m : Model) (bound : Bounding) (input : List ℕ) (p : Listing) → IsProgramText (any Source) input p → IsSmall p → (status : Status) (out : List ℕ) → AnswersProgram (any Source) (ReportsCycles m bound) input status out → IsDoneOrKept status
-analysed m bound input p h s status out (AnswersProgram.refused r) = absurd (not_refused (any Source) input p h status out r)
-analysed m bound input p h s status out (AnswersProgram.program q k w) = told q status out w (subst IsSmall (one_program (any Source) input p q h k) s)
+analysed : (m : Model) (bound : Bounding) (input : List ℕ) (p : Listing) → IsProgramText Source input p → IsSmall p → (status : Status) (out : List ℕ) → AnswersProgram Source (ReportsCycles m bound) input status out → IsDoneOrKept status
+analysed m bound input p h s status out (AnswersProgram.refused r) = absurd (not_refused Source input p h status out r)
+analysed m bound input p h s status out (AnswersProgram.program q k w) = told q status out w (subst IsSmall (one_program Source input p q h k) s)
   where
     told : (q : Listing) (status : Status) (out : List ℕ) → ReportsCycles m bound q status out → IsSmall q → IsDoneOrKept status
-    told q status out (ReportsCycles.too_many_sites n) s = absurd (small_enough q s n)
-    told q status out (ReportsCycles.too_many_cells n) s = absurd (few_enough q s n)
+    told q status out (ReportsCycles.too_large n) s = absurd (not_too_large q s status out n)
     told q status out (ReportsCycles.reported head i n r) s = tt
 
 -- ---- the answer
 
 done_text : (s : Settings) (input : List ℕ) (status : Status) (out : List ℕ) → HasParts s input → AnswersText s input status out → IsDoneOrKept status
-done_text (Instrument m bound) input status out h a = instrumented m bound input h.0 h.1 status out a
+done_text (Instrument m bound) input status out h a = instrumented m bound input h.0 h.1 h.2 status out a
 done_text (Cycles m bound) input status out h a = analysed m bound input h.0 h.1 h.2 status out a
-done_text ReplaySc input status out h a = parts (run_by Sc) Sc input h status out a
-done_text (Replay m bound) input status out h a = parts (run_by (Buffered m bound)) (Buffered m bound) input h status out a
+done_text ReplaySc input status out h a = parts (side_for Sc) Sc input h status out a
+done_text (Replay m bound) input status out h a = parts (side_for (Buffered m bound)) (Buffered m bound) input h status out a
 
 done_whole : (s : Settings) (input : List ℕ) (status : Status) (out : List ℕ) → IsAccepted s input → AnswersWhole s input status out → IsDoneOrKept status
 done_whole s input status out h (AnswersWhole.no_text at n) = absurd (is_text input n.front h.text n.longest)

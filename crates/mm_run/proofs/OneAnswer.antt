@@ -5,7 +5,11 @@ use Rattle.std.proofs.lemmas.Str.{utf8_valid_len-IsValidUpTo}
 use Rattle.mm_goto.specs.declared.ident.At.{At}
 use Rattle.mm_goto.specs.declared.model.Model.{Model}
 use Rattle.mm_goto.specs.Bounds.{Bounding}
+use Rattle.mm_tree.specs.declared.side.Side.{Side}
 use Rattle.mm_tree.specs.declared.side.Side.TheVariants.{Source}
+use Rattle.mm_print.specs.Items.{printed_text}
+use Rattle.mm_instr.specs.Woven.{woven}
+use Rattle.mm_planned.proofs.Unique.{one_plan}
 use Rattle.mm_goto.specs.Listing.{Listing}
 use Rattle.mm_goto.specs.Place.{place_after}
 use Rattle.mm_sched.specs.declared.entry.Rules.{Rules}
@@ -17,9 +21,9 @@ use Rattle.mm_run.specs.Answer.{AnswersParts, AnswersProgram, AnswersText, Answe
 use Rattle.mm_run.specs.Lines.{refusal_line}
 use Rattle.mm_run.specs.Parts.{IsNotUtf8, IsSplit}
 use Rattle.mm_run.specs.Outcome.{TellsVerdict}
-use Rattle.mm_run.specs.Program.{Intake, IsProgramText, any, run_by, small_source}
-use Rattle.mm_run.proofs.Completing.{is_text, one_back, one_front}
-use Rattle.mm_run.proofs.OneReport.{one_of_reports}
+use Rattle.mm_run.specs.Program.{IsProgramText, side_for}
+use Rattle.mm_run.proofs.Completing.{is_text, not_too_large, one_back, one_front}
+use Rattle.mm_run.proofs.OneReport.{one_of_reports, one_too_large}
 use Rattle.mm_run.proofs.Refused.{not_refused, one_program}
 use Rattle.mm_run.proofs.OneAnswerCause.{one_refusing}
 use Rattle.mm_run.proofs.OneAnswerSchedule.{HasOneAnswer, one_outcome}
@@ -38,28 +42,33 @@ one_replay r p schedule = one_outcome r p schedule TellsVerdict one_verdict
 
 -- a program has one woven program
 one_woven : (m : Model) (bound : Bounding) (p : Listing) (a b : Status) (out text : List ℕ) → PrintsWoven m bound p a out → PrintsWoven m bound p b text → (a ≡ b) × (out ≡ text)
-one_woven m bound p a b out text (PrintsWoven.done h) (PrintsWoven.done k) = (refl, h.text ∙ sym k.text)
+one_woven m bound p a b out text (PrintsWoven.too_large h) (PrintsWoven.too_large k) = one_too_large p a b out text h k
+one_woven m bound p a b out text (PrintsWoven.too_large h) (PrintsWoven.done s w u) = absurd (not_too_large p s a out h)
+one_woven m bound p a b out text (PrintsWoven.done s w u) (PrintsWoven.too_large k) = absurd (not_too_large p s b text k)
+one_woven m bound p a b out text (PrintsWoven.done s v u) (PrintsWoven.done t w o) =
+    let one = one_plan p m bound v.shape w.shape v.head w.head v.plan w.plan in
+    (refl, v.text ∙ ap (λ shape. printed_text (woven p shape) v.head) one.0 ∙ ap (λ head. printed_text (woven p w.shape) head) one.1 ∙ sym w.text)
 
 -- the program of an input is refused or has one listing
-module _ (taken : Intake) (Gives : ProgramAnswer) (one : (p : Listing) (a b : Status) (out text : List ℕ) → Gives p a out → Gives p b text → (a ≡ b) × (out ≡ text)) (input : List ℕ) where
-  one_of_program : (a b : Status) (out text : List ℕ) → AnswersProgram taken Gives input a out → AnswersProgram taken Gives input b text → (a ≡ b) × (out ≡ text)
+module _ (side : Side) (Gives : ProgramAnswer) (one : (p : Listing) (a b : Status) (out text : List ℕ) → Gives p a out → Gives p b text → (a ≡ b) × (out ≡ text)) (input : List ℕ) where
+  one_of_program : (a b : Status) (out text : List ℕ) → AnswersProgram side Gives input a out → AnswersProgram side Gives input b text → (a ≡ b) × (out ≡ text)
   one_of_program a b out text (AnswersProgram.program p h u) (AnswersProgram.program q k v) =
-      one p a b out text u (subst (λ (x : Listing). Gives x b text) (one_program taken input q p k h) v)
-  one_of_program a b out text (AnswersProgram.program p h u) (AnswersProgram.refused k) = absurd (not_refused taken input p h b text k)
-  one_of_program a b out text (AnswersProgram.refused h) (AnswersProgram.program q k v) = absurd (not_refused taken input q k a out h)
-  one_of_program a b out text (AnswersProgram.refused h) (AnswersProgram.refused k) = one_refusing taken input a b out text h k
+      one p a b out text u (subst (λ (x : Listing). Gives x b text) (one_program side input q p k h) v)
+  one_of_program a b out text (AnswersProgram.program p h u) (AnswersProgram.refused k) = absurd (not_refused side input p h b text k)
+  one_of_program a b out text (AnswersProgram.refused h) (AnswersProgram.program q k v) = absurd (not_refused side input q k a out h)
+  one_of_program a b out text (AnswersProgram.refused h) (AnswersProgram.refused k) = one_refusing side input a b out text h k
 
 -- and the parts of an input are one program and one schedule
-module _ (taken : List ℕ → Intake) (Gives : ScheduleAnswer) (one : (p : Listing) (schedule : List ℕ) (a b : Status) (out text : List ℕ) → Gives p schedule a out → Gives p schedule b text → (a ≡ b) × (out ≡ text)) (input : List ℕ) where
-  one_way : (p q s t : List ℕ) (n : Listing) (status : Status) (out : List ℕ) → IsSplit input p s → IsSplit input q t → Refusing (taken p) p status out → IsProgramText (taken q) q n → ⊥
-  one_way p q s t n status out h k u v = not_refused (taken q) q n v status out (subst (λ (x : List ℕ). Refusing (taken x) x status out) (one_front input p q s t h k) u)
+module _ (side_of : List ℕ → Side) (Gives : ScheduleAnswer) (one : (p : Listing) (schedule : List ℕ) (a b : Status) (out text : List ℕ) → Gives p schedule a out → Gives p schedule b text → (a ≡ b) × (out ≡ text)) (input : List ℕ) where
+  one_way : (p q s t : List ℕ) (n : Listing) (status : Status) (out : List ℕ) → IsSplit input p s → IsSplit input q t → Refusing (side_of p) p status out → IsProgramText (side_of q) q n → ⊥
+  one_way p q s t n status out h k u v = not_refused (side_of q) q n v status out (subst (λ (x : List ℕ). Refusing (side_of x) x status out) (one_front input p q s t h k) u)
 
-  one_of_parts : (a b : Status) (out text : List ℕ) → AnswersParts taken Gives input a out → AnswersParts taken Gives input b text → (a ≡ b) × (out ≡ text)
+  one_of_parts : (a b : Status) (out text : List ℕ) → AnswersParts side_of Gives input a out → AnswersParts side_of Gives input b text → (a ≡ b) × (out ≡ text)
   one_of_parts a b out text (AnswersParts.one_part h) (AnswersParts.one_part k) = (refl, refl)
   one_of_parts a b out text (AnswersParts.refused p s h u) (AnswersParts.refused q t k v) =
-      one_refusing (taken p) p a b out text u (subst (λ (x : List ℕ). Refusing (taken x) x b text) (one_front input q p t s k h) v)
+      one_refusing (side_of p) p a b out text u (subst (λ (x : List ℕ). Refusing (side_of x) x b text) (one_front input q p t s k h) v)
   one_of_parts a b out text (AnswersParts.both p s m h u e) (AnswersParts.both q t n k v f) =
-      let listing : n ≡ m = one_program (taken p) p n m (subst (λ (x : List ℕ). IsProgramText (taken x) x n) (one_front input q p t s k h) v) u in
+      let listing : n ≡ m = one_program (side_of p) p n m (subst (λ (x : List ℕ). IsProgramText (side_of x) x n) (one_front input q p t s k h) v) u in
       one m s a b out text e (subst (λ (x : List ℕ). Gives m x b text) (one_back input q p t s k h) (subst (λ (x : Listing). Gives x t b text) listing f))
   one_of_parts a b out text (AnswersParts.one_part h) (AnswersParts.refused q t k v) = absurd (h _ k.parting)
   one_of_parts a b out text (AnswersParts.one_part h) (AnswersParts.both q t n k v f) = absurd (h _ k.parting)
@@ -69,10 +78,10 @@ module _ (taken : List ℕ → Intake) (Gives : ScheduleAnswer) (one : (p : List
   one_of_parts a b out text (AnswersParts.both p s m h u e) (AnswersParts.refused q t k v) = absurd (one_way q p t s m b text k h v u)
 
 one_text : (s : Settings) (input : List ℕ) (a b : Status) (out text : List ℕ) → AnswersText s input a out → AnswersText s input b text → (a ≡ b) × (out ≡ text)
-one_text (Instrument m bound) input a b out text h k = one_of_program small_source (PrintsWoven m bound) (one_woven m bound) input a b out text h k
-one_text (Cycles m bound) input a b out text h k = one_of_program (any Source) (ReportsCycles m bound) (one_of_reports m bound) input a b out text h k
-one_text ReplaySc input a b out text h k = one_of_parts (run_by Sc) (Replays Sc) (one_replay Sc) input a b out text h k
-one_text (Replay m bound) input a b out text h k = one_of_parts (run_by (Buffered m bound)) (Replays (Buffered m bound)) (one_replay (Buffered m bound)) input a b out text h k
+one_text (Instrument m bound) input a b out text h k = one_of_program Source (PrintsWoven m bound) (one_woven m bound) input a b out text h k
+one_text (Cycles m bound) input a b out text h k = one_of_program Source (ReportsCycles m bound) (one_of_reports m bound) input a b out text h k
+one_text ReplaySc input a b out text h k = one_of_parts (side_for Sc) (Replays Sc) (one_replay Sc) input a b out text h k
+one_text (Replay m bound) input a b out text h k = one_of_parts (side_for (Buffered m bound)) (Replays (Buffered m bound)) (one_replay (Buffered m bound)) input a b out text h k
 
 -- an input is a text or is none, and has one answer
 pub one_answer : (s : Settings) (input : List ℕ) (a b : Status) (out text : List ℕ) → AnswersWhole s input a out → AnswersWhole s input b text → (a ≡ b) × (out ≡ text)

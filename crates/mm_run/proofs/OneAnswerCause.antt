@@ -24,8 +24,8 @@ use Rattle.mm_names.specs.declared.refusal.NameFault.{NameFault}
 use Rattle.mm_names.specs.declared.refusal.NameFault.TheVariants as name_fault
 use Rattle.mm_names.specs.Programs.{IsRefused as IsNameFault}
 use Rattle.mm_names.proofs.Decided.{in_one_way}
-use Rattle.mm_run.specs.Program.{HasFault, HasNameFault, Intake, IsNoProgram, IsNotBuilt, IsRefused, PassesLimit, limit_words}
-use Rattle.mm_run.proofs.Refused.{no_fault, no_limit, no_parse_fault, no_name_fault, one_tree}
+use Rattle.mm_run.specs.Program.{HasFault, HasNameFault, IsNoProgram, PassesLimit, limit_words}
+use Rattle.mm_run.proofs.Refused.{no_fault, no_parse_fault, no_name_fault, one_tree}
 
 -- ---- the fault of the grammar is one
 
@@ -54,14 +54,12 @@ data Cause : Type 0 where
   of_grammar : ParseFault → Cause
   of_names : NameFault → Cause
   of_limits : Limit → Cause
-  not_built : Cause
 
-abbrev HasCause : Intake → List ℕ → Cause → Type 0
-HasCause taken text (Cause.of_tokens fault) = IsFirstFault text fault
-HasCause taken text (Cause.of_grammar fault) = HasFault taken.side text fault
-HasCause taken text (Cause.of_names fault) = HasNameFault taken.side text fault
-HasCause taken text (Cause.of_limits limit) = PassesLimit taken.side text limit
-HasCause taken text Cause.not_built = IsNotBuilt taken text
+abbrev HasCause : Side → List ℕ → Cause → Type 0
+HasCause side text (Cause.of_tokens fault) = IsFirstFault text fault
+HasCause side text (Cause.of_grammar fault) = HasFault side text fault
+HasCause side text (Cause.of_names fault) = HasNameFault side text fault
+HasCause side text (Cause.of_limits limit) = PassesLimit side text limit
 
 -- the place of a cause; want of memory refuses no text
 abbrev place_of : Cause → At
@@ -82,7 +80,6 @@ place_of (Cause.of_names (name_fault.BadThread at)) = at
 place_of (Cause.of_names (name_fault.Recursion at)) = at
 place_of (Cause.of_names name_fault.NoMemory) = start
 place_of (Cause.of_limits limit) = start
-place_of Cause.not_built = start
 
 -- and its words
 abbrev words_of : Cause → List ℕ
@@ -103,11 +100,10 @@ words_of (Cause.of_names (name_fault.BadThread at)) = codes "bad thread"
 words_of (Cause.of_names (name_fault.Recursion at)) = codes "recursion"
 words_of (Cause.of_names name_fault.NoMemory) = []
 words_of (Cause.of_limits limit) = limit_words limit
-words_of Cause.not_built = codes "not built"
 
 -- a text has one fault of its names and types at most
-one_name_fault : (taken : Intake) (text : List ℕ) (f g : NameFault) → HasNameFault taken.side text f → HasNameFault taken.side text g → f ≡ g
-one_name_fault taken text f g h k = in_one_way taken.side k.tree f g (subst (λ (t : Tree). IsNameFault taken.side t f) (one_tree taken.side text h.tree k.tree h.read k.read) h.fails) k.fails
+one_name_fault : (side : Side) (text : List ℕ) (f g : NameFault) → HasNameFault side text f → HasNameFault side text g → f ≡ g
+one_name_fault side text f g h k = in_one_way side k.tree f g (subst (λ (t : Tree). IsNameFault side t f) (one_tree side text h.tree k.tree h.read k.read) h.fails) k.fails
 
 -- and passes one limit first
 one_limit : (side : Side) (text : List ℕ) (f g : Limit) → PassesLimit side text f → PassesLimit side text g → f ≡ g
@@ -117,72 +113,59 @@ one_limit side text f g h k = same (subst (λ (t : Tree). limit_passed side t �
     same e f = cc
 
 -- a text has one cause at most
-one_cause : (taken : Intake) (text : List ℕ) (a b : Cause) → HasCause taken text a → HasCause taken text b → a ≡ b
-one_cause taken text (Cause.of_tokens f) (Cause.of_tokens g) h k = ap Cause.of_tokens (fault_unique text f g h k)
-one_cause taken text (Cause.of_tokens f) (Cause.of_grammar g) h k = absurd (tokens_or_fault text k.tokens f k.cut h)
-one_cause taken text (Cause.of_tokens f) (Cause.of_names g) h k = absurd (no_fault taken.side text k.tree k.read f h)
-one_cause taken text (Cause.of_tokens f) Cause.not_built h k = absurd (no_fault taken.side text k.tree k.read f h)
-one_cause taken text (Cause.of_grammar f) (Cause.of_tokens g) h k = absurd (tokens_or_fault text h.tokens g h.cut k)
-one_cause taken text (Cause.of_grammar f) (Cause.of_grammar g) h k = ap Cause.of_grammar (one_fault taken.side text k.tokens f g (subst (λ (ts : List Token). IsFault taken.side text ts f) (tokens_unique text h.tokens k.tokens h.cut k.cut) h.fails) k.fails)
-one_cause taken text (Cause.of_grammar f) (Cause.of_names g) h k = absurd (no_parse_fault taken.side text k.tree k.read f h)
-one_cause taken text (Cause.of_grammar f) Cause.not_built h k = absurd (no_parse_fault taken.side text k.tree k.read f h)
-one_cause taken text (Cause.of_names f) (Cause.of_tokens g) h k = absurd (no_fault taken.side text h.tree h.read g k)
-one_cause taken text (Cause.of_names f) (Cause.of_grammar g) h k = absurd (no_parse_fault taken.side text h.tree h.read g k)
-one_cause taken text (Cause.of_names f) (Cause.of_names g) h k = ap Cause.of_names (one_name_fault taken text f g h k)
-one_cause taken text (Cause.of_names f) Cause.not_built h k = absurd (no_name_fault taken.side text k.tree k.read k.sense f h)
-one_cause taken text (Cause.of_tokens f) (Cause.of_limits g) h k = absurd (no_fault taken.side text k.tree k.read f h)
-one_cause taken text (Cause.of_grammar f) (Cause.of_limits g) h k = absurd (no_parse_fault taken.side text k.tree k.read f h)
-one_cause taken text (Cause.of_names f) (Cause.of_limits g) h k = absurd (no_name_fault taken.side text k.tree k.read k.sense f h)
-one_cause taken text (Cause.of_limits f) (Cause.of_tokens g) h k = absurd (no_fault taken.side text h.tree h.read g k)
-one_cause taken text (Cause.of_limits f) (Cause.of_grammar g) h k = absurd (no_parse_fault taken.side text h.tree h.read g k)
-one_cause taken text (Cause.of_limits f) (Cause.of_names g) h k = absurd (no_name_fault taken.side text h.tree h.read h.sense g k)
-one_cause taken text (Cause.of_limits f) (Cause.of_limits g) h k = ap Cause.of_limits (one_limit taken.side text f g h k)
-one_cause taken text (Cause.of_limits f) Cause.not_built h k = absurd (no_limit taken.side text k.tree k.read k.within f h)
-one_cause taken text Cause.not_built (Cause.of_limits g) h k = absurd (no_limit taken.side text h.tree h.read h.within g k)
-one_cause taken text Cause.not_built (Cause.of_tokens g) h k = absurd (no_fault taken.side text h.tree h.read g k)
-one_cause taken text Cause.not_built (Cause.of_grammar g) h k = absurd (no_parse_fault taken.side text h.tree h.read g k)
-one_cause taken text Cause.not_built (Cause.of_names g) h k = absurd (no_name_fault taken.side text h.tree h.read h.sense g k)
-one_cause taken text Cause.not_built Cause.not_built h k = refl
+one_cause : (side : Side) (text : List ℕ) (a b : Cause) → HasCause side text a → HasCause side text b → a ≡ b
+one_cause side text (Cause.of_tokens f) (Cause.of_tokens g) h k = ap Cause.of_tokens (fault_unique text f g h k)
+one_cause side text (Cause.of_tokens f) (Cause.of_grammar g) h k = absurd (tokens_or_fault text k.tokens f k.cut h)
+one_cause side text (Cause.of_tokens f) (Cause.of_names g) h k = absurd (no_fault side text k.tree k.read f h)
+one_cause side text (Cause.of_grammar f) (Cause.of_tokens g) h k = absurd (tokens_or_fault text h.tokens g h.cut k)
+one_cause side text (Cause.of_grammar f) (Cause.of_grammar g) h k = ap Cause.of_grammar (one_fault side text k.tokens f g (subst (λ (ts : List Token). IsFault side text ts f) (tokens_unique text h.tokens k.tokens h.cut k.cut) h.fails) k.fails)
+one_cause side text (Cause.of_grammar f) (Cause.of_names g) h k = absurd (no_parse_fault side text k.tree k.read f h)
+one_cause side text (Cause.of_names f) (Cause.of_tokens g) h k = absurd (no_fault side text h.tree h.read g k)
+one_cause side text (Cause.of_names f) (Cause.of_grammar g) h k = absurd (no_parse_fault side text h.tree h.read g k)
+one_cause side text (Cause.of_names f) (Cause.of_names g) h k = ap Cause.of_names (one_name_fault side text f g h k)
+one_cause side text (Cause.of_tokens f) (Cause.of_limits g) h k = absurd (no_fault side text k.tree k.read f h)
+one_cause side text (Cause.of_grammar f) (Cause.of_limits g) h k = absurd (no_parse_fault side text k.tree k.read f h)
+one_cause side text (Cause.of_names f) (Cause.of_limits g) h k = absurd (no_name_fault side text k.tree k.read k.sense f h)
+one_cause side text (Cause.of_limits f) (Cause.of_tokens g) h k = absurd (no_fault side text h.tree h.read g k)
+one_cause side text (Cause.of_limits f) (Cause.of_grammar g) h k = absurd (no_parse_fault side text h.tree h.read g k)
+one_cause side text (Cause.of_limits f) (Cause.of_names g) h k = absurd (no_name_fault side text h.tree h.read h.sense g k)
+one_cause side text (Cause.of_limits f) (Cause.of_limits g) h k = ap Cause.of_limits (one_limit side text f g h k)
 
 -- ---- refusals
 
 -- the cause of a refusal
-record Caused (taken : Intake) (text : List ℕ) (at : At) (why : List ℕ) : Type 0 where
+record Caused (side : Side) (text : List ℕ) (at : At) (why : List ℕ) : Type 0 where
   cause : Cause
-  has : HasCause taken text cause
+  has : HasCause side text cause
   place : at ≡ place_of cause
   words : why ≡ words_of cause
 
-no_program_caused : (taken : Intake) (text : List ℕ) (at : At) (why : List ℕ) → IsNoProgram taken.side text at why → Caused taken text at why
-no_program_caused taken text at why (IsNoProgram.bad_token q f) = record { cause = Cause.of_tokens (lex_fault.BadToken q); has = f; place = refl; words = refl }
-no_program_caused taken text at why (IsNoProgram.large_number q f) = record { cause = Cause.of_tokens (lex_fault.NumberTooLarge q); has = f; place = refl; words = refl }
-no_program_caused taken text at why (IsNoProgram.too_deep q f) = record { cause = Cause.of_grammar (parse_fault.TooDeep q); has = f; place = refl; words = refl }
-no_program_caused taken text at why (IsNoProgram.outside word q f) = record { cause = Cause.of_grammar (parse_fault.OutsideProfile word q); has = f; place = refl; words = refl }
-no_program_caused taken text at why (IsNoProgram.bad_syntax q f) = record { cause = Cause.of_grammar (parse_fault.BadSyntax q); has = f; place = refl; words = refl }
-no_program_caused taken text at why (IsNoProgram.no_main q f) = record { cause = Cause.of_names (name_fault.NoMain q); has = f; place = refl; words = refl }
-no_program_caused taken text at why (IsNoProgram.reserved q f) = record { cause = Cause.of_names (name_fault.ReservedName q); has = f; place = refl; words = refl }
-no_program_caused taken text at why (IsNoProgram.output_only q f) = record { cause = Cause.of_names (name_fault.OutputOnly q); has = f; place = refl; words = refl }
-no_program_caused taken text at why (IsNoProgram.twice q f) = record { cause = Cause.of_names (name_fault.TwiceDeclared q); has = f; place = refl; words = refl }
-no_program_caused taken text at why (IsNoProgram.unknown q f) = record { cause = Cause.of_names (name_fault.UnknownName q); has = f; place = refl; words = refl }
-no_program_caused taken text at why (IsNoProgram.wrong_type q f) = record { cause = Cause.of_names (name_fault.WrongType q); has = f; place = refl; words = refl }
-no_program_caused taken text at why (IsNoProgram.bad_thread q f) = record { cause = Cause.of_names (name_fault.BadThread q); has = f; place = refl; words = refl }
-no_program_caused taken text at why (IsNoProgram.recursion q f) = record { cause = Cause.of_names (name_fault.Recursion q); has = f; place = refl; words = refl }
-no_program_caused taken text at why (IsNoProgram.too_many limit f) = record { cause = Cause.of_limits limit; has = f; place = refl; words = refl }
-
-caused : (taken : Intake) (text : List ℕ) (at : At) (why : List ℕ) → IsRefused taken text at why → Caused taken text at why
-caused taken text at why (IsRefused.no_program n) = no_program_caused taken text at why n
-caused taken text at why (IsRefused.not_built f) = record { cause = Cause.not_built; has = f; place = refl; words = refl }
+caused : (side : Side) (text : List ℕ) (at : At) (why : List ℕ) → IsNoProgram side text at why → Caused side text at why
+caused side text at why (IsNoProgram.bad_token q f) = record { cause = Cause.of_tokens (lex_fault.BadToken q); has = f; place = refl; words = refl }
+caused side text at why (IsNoProgram.large_number q f) = record { cause = Cause.of_tokens (lex_fault.NumberTooLarge q); has = f; place = refl; words = refl }
+caused side text at why (IsNoProgram.too_deep q f) = record { cause = Cause.of_grammar (parse_fault.TooDeep q); has = f; place = refl; words = refl }
+caused side text at why (IsNoProgram.outside word q f) = record { cause = Cause.of_grammar (parse_fault.OutsideProfile word q); has = f; place = refl; words = refl }
+caused side text at why (IsNoProgram.bad_syntax q f) = record { cause = Cause.of_grammar (parse_fault.BadSyntax q); has = f; place = refl; words = refl }
+caused side text at why (IsNoProgram.no_main q f) = record { cause = Cause.of_names (name_fault.NoMain q); has = f; place = refl; words = refl }
+caused side text at why (IsNoProgram.reserved q f) = record { cause = Cause.of_names (name_fault.ReservedName q); has = f; place = refl; words = refl }
+caused side text at why (IsNoProgram.output_only q f) = record { cause = Cause.of_names (name_fault.OutputOnly q); has = f; place = refl; words = refl }
+caused side text at why (IsNoProgram.twice q f) = record { cause = Cause.of_names (name_fault.TwiceDeclared q); has = f; place = refl; words = refl }
+caused side text at why (IsNoProgram.unknown q f) = record { cause = Cause.of_names (name_fault.UnknownName q); has = f; place = refl; words = refl }
+caused side text at why (IsNoProgram.wrong_type q f) = record { cause = Cause.of_names (name_fault.WrongType q); has = f; place = refl; words = refl }
+caused side text at why (IsNoProgram.bad_thread q f) = record { cause = Cause.of_names (name_fault.BadThread q); has = f; place = refl; words = refl }
+caused side text at why (IsNoProgram.recursion q f) = record { cause = Cause.of_names (name_fault.Recursion q); has = f; place = refl; words = refl }
+caused side text at why (IsNoProgram.too_many limit f) = record { cause = Cause.of_limits limit; has = f; place = refl; words = refl }
 
 -- a refusal has one place and one reason
-one_refusal : (taken : Intake) (text : List ℕ) (at place : At) (why words : List ℕ) → IsRefused taken text at why → IsRefused taken text place words → (at ≡ place) × (why ≡ words)
-one_refusal taken text at place why words h k =
-    let a = caused taken text at why h in
-    let b = caused taken text place words k in
-    let same = one_cause taken text a.cause b.cause a.has b.has in
+one_refusal : (side : Side) (text : List ℕ) (at place : At) (why words : List ℕ) → IsNoProgram side text at why → IsNoProgram side text place words → (at ≡ place) × (why ≡ words)
+one_refusal side text at place why words h k =
+    let a = caused side text at why h in
+    let b = caused side text place words k in
+    let same = one_cause side text a.cause b.cause a.has b.has in
     (a.place ∙ ap place_of same ∙ sym b.place, a.words ∙ ap words_of same ∙ sym b.words)
 
 -- and so one status and one output
-pub one_refusing : (taken : Intake) (input : List ℕ) (a b : Status) (out text : List ℕ) → Refusing taken input a out → Refusing taken input b text → (a ≡ b) × (out ≡ text)
-one_refusing taken input a b out text (Refusing.refused at why h) (Refusing.refused place words k) =
-    let same = one_refusal taken input at place why words h k in
+pub one_refusing : (side : Side) (input : List ℕ) (a b : Status) (out text : List ℕ) → Refusing side input a out → Refusing side input b text → (a ≡ b) × (out ≡ text)
+one_refusing side input a b out text (Refusing.refused at why h) (Refusing.refused place words k) =
+    let same = one_refusal side input at place why words h k in
     (refl, ap (λ q. refusal_line q why) same.0 ∙ ap (refusal_line place) same.1)

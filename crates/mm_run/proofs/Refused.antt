@@ -8,7 +8,6 @@ use Rattle.mm_lexer.specs.Tokens.{AreTokens, IsFirstFault}
 use Rattle.mm_lexer.proofs.Unique.{tokens_unique, tokens_or_fault}
 use Rattle.mm_tree.specs.declared.item.Tree.{Tree}
 use Rattle.mm_tree.specs.declared.side.Side.{Side}
-use Rattle.mm_tree.specs.declared.side.Side.TheVariants.{Source}
 use Rattle.mm_flow.specs.declared.fault.Limit.{Limit}
 use Rattle.mm_flow.specs.Programs.{limit_passed, program_of}
 use Rattle.mm_parse_expr.specs.declared.fault.ParseFault.{ParseFault}
@@ -21,14 +20,14 @@ use Rattle.mm_lexer.specs.declared.token.LexFault.TheVariants as lex_fault
 use Rattle.mm_parse_expr.specs.declared.fault.ParseFault.TheVariants as parse_fault
 use Rattle.mm_run.specs.declared.program.ProgramFault.{ProgramFault}
 use Rattle.mm_run.specs.declared.program.ProgramFault.TheVariants as program_fault
-use Rattle.mm_run.specs.Refusal.{Rejects, Refuses, Says, Tells}
+use Rattle.mm_run.specs.Refusal.{Rejects, Says, Tells}
 use Rattle.mm_run.specs.declared.status.Status.{Status}
 use Rattle.mm_run.specs.Answer.{Refusing}
 use Rattle.mm_names.specs.declared.refusal.NameFault.{NameFault}
 use Rattle.mm_names.specs.declared.refusal.NameFault.TheVariants as name_fault
 use Rattle.mm_names.specs.Programs.{IsAccepted as MakesSense, IsRefused as IsNameFault}
 use Rattle.mm_names.proofs.Decided.{never_both}
-use Rattle.mm_run.specs.Program.{HasFault, HasNameFault, Intake, IsNoProgram, IsProgramText, IsRefused, PassesLimit, any, small_source}
+use Rattle.mm_run.specs.Program.{HasFault, HasNameFault, IsNoProgram, IsProgramText, PassesLimit}
 
 -- the tree of the tokens is that of the text
 pub tree_of : (side : Side) (text : List ℕ) (tokens read : List Token) (tree : Tree) → read ≡ tokens → AreTokens text tokens → Parses side text read tree → IsTreeOf side text tree
@@ -39,10 +38,10 @@ one_tree side text a b h k =
     let same : h.tokens ≡ k.tokens = tokens_unique text h.tokens k.tokens h.cut k.cut in
     one_grammar_tree (map (terminal_of text) h.tokens) a b h.parsed (subst (λ (ts : List Token). IsProgram (map (terminal_of text) ts) b) (sym same) k.parsed)
 
-pub one_program : (taken : Intake) (text : List ℕ) (p q : Listing) → IsProgramText taken text p → IsProgramText taken text q → p ≡ q
-one_program taken text p q h k =
-    let same : h.tree ≡ k.tree = one_tree taken.side text h.tree k.tree h.read k.read in
-    h.flat ∙ ap (program_of taken.side) same ∙ sym k.flat
+pub one_program : (side : Side) (text : List ℕ) (p q : Listing) → IsProgramText side text p → IsProgramText side text q → p ≡ q
+one_program side text p q h k =
+    let same : h.tree ≡ k.tree = one_tree side text h.tree k.tree h.read k.read in
+    h.flat ∙ ap (program_of side) same ∙ sym k.flat
 
 -- a text that has a tree has no fault of its tokens and none of the grammar
 module _ (side : Side) (text : List ℕ) (tree : Tree) (h : IsTreeOf side text tree) where
@@ -87,13 +86,8 @@ module _ (side : Side) (text : List ℕ) (tree : Tree) (read : IsTreeOf side tex
   is_program at why (IsNoProgram.recursion q f) = no_name_fault side text tree read sense _ f
   is_program at why (IsNoProgram.too_many limit f) = no_limit side text tree read within limit f
 
-module _ (taken : Intake) (text : List ℕ) (p : Listing) (h : IsProgramText taken text p) where
-  pub accepted : (at : At) (why : List ℕ) → IsRefused taken text at why → ⊥
-  accepted at why (IsRefused.no_program n) = is_program taken.side text h.tree h.read h.sense h.within at why n
-  accepted at why (IsRefused.not_built f) = f.not_built (subst taken.IsBuilt (one_tree taken.side text h.tree f.tree h.read f.read) h.built)
-
-  pub not_refused : (status : Status) (out : List ℕ) → Refusing taken text status out → ⊥
-  not_refused status out (Refusing.refused at why r) = accepted at why r
+pub not_refused : (side : Side) (text : List ℕ) (p : Listing) → IsProgramText side text p → (status : Status) (out : List ℕ) → Refusing side text status out → ⊥
+not_refused side text p h status out (Refusing.refused at why r) = is_program side text h.tree h.read h.sense h.within at why r
 
 -- ---- what a fault says
 
@@ -102,23 +96,9 @@ pub rejects : (side : Side) (text : List ℕ) (at : At) (why : List ℕ) (fault 
 rejects side text at why (program_fault.Refused r) h s = rw (s.0, s.1) h
 rejects side text at why program_fault.NoMemory h s = tt
 
--- and one that says why the text is refused refuses it
-pub refuses : (text : List ℕ) (at : At) (why : List ℕ) (fault : ProgramFault) → IsRefused small_source text at why → Says fault at why → Refuses text fault
-refuses text at why (program_fault.Refused r) h s = rw (s.0, s.1) h
-refuses text at why program_fault.NoMemory h s = tt
-
--- a text that is no program is refused
-pub rejected : (text : List ℕ) (fault : ProgramFault) → Rejects Source text fault → Refuses text fault
-rejected text (program_fault.Refused r) h = IsRefused.no_program h
-rejected text program_fault.NoMemory h = tt
-
 -- what a fault tells is the answer
-pub refuses_small : (text : List ℕ) (fault : ProgramFault) (s : Status) (out : List ℕ) → Tells fault s out → Refuses text fault → Refusing small_source text s out
-refuses_small text (program_fault.Refused r) s out t h = rw (t.0, t.1) (Refusing.refused r.at (string_bytes r.why) h)
-refuses_small text program_fault.NoMemory s out t h = absurd t
-
-pub rejects_any : (side : Side) (text : List ℕ) (fault : ProgramFault) (s : Status) (out : List ℕ) → Tells fault s out → Rejects side text fault → Refusing (any side) text s out
-rejects_any side text (program_fault.Refused r) s out t h = rw (t.0, t.1) (Refusing.refused r.at (string_bytes r.why) (IsRefused.no_program h))
+pub rejects_any : (side : Side) (text : List ℕ) (fault : ProgramFault) (s : Status) (out : List ℕ) → Tells fault s out → Rejects side text fault → Refusing side text s out
+rejects_any side text (program_fault.Refused r) s out t h = rw (t.0, t.1) (Refusing.refused r.at (string_bytes r.why) h)
 rejects_any side text program_fault.NoMemory s out t h = absurd t
 
 -- a fault that is known, of tokens

@@ -1,5 +1,5 @@
 -- What a text that makes sense is flattened to is what the machines take.
-use Rattle.std.proofs.Common.{◌≡◌, ℕ, suc, ◌<◌, ◌^◌, false, List, [], ◌∷◌, length, refl, Some, None}
+use Rattle.std.proofs.Common.{◌≡◌, ℕ, suc, ◌<◌, ◌^◌, false, List, [], ◌∷◌, length, refl, sym, subst, Some, None}
 use Rattle.std.specs.List.{AllByRecursion, slice_get}
 use Rattle.std.specs.Str.{IsUtf8}
 use Rattle.std.proofs.lemmas.List.Elements.{All-from_recursion}
@@ -7,6 +7,7 @@ use Rattle.mm_goto.specs.declared.program.Instr.{Instr}
 use Rattle.mm_goto.specs.declared.program.Thread.{Thread}
 use Rattle.mm_goto.specs.Listing.{Listing}
 use Rattle.mm_goto.specs.Sourcelike.{is_section}
+use Rattle.mm_goto.specs.Valid.{IsValid}
 use Rattle.mm_tree.specs.declared.item.Tree.{Tree}
 use Rattle.mm_tree.specs.declared.side.Side.{Side}
 use Rattle.mm_tree.specs.declared.side.Side.TheVariants.{Source, Output}
@@ -21,7 +22,7 @@ use Rattle.mm_sourcelike.specs.Shapes.{IsScoped}
 use Rattle.mm_sourcelike.proofs.Guarded.{no_section}
 use Rattle.mm_sourcelike.proofs.Law.{flattened_valid}
 use Rattle.mm_sourcelike.proofs.Texts.{text_is_grammatical}
-use Rattle.mm_run.specs.Program.{side_for}
+use Rattle.mm_run.specs.Program.{IsProgramText, side_for}
 use Rattle.mm_run.specs.reading.Sound.{CanRun, FlattensWell, HasSections}
 
 by_index : {X : Type 0} (P : X → Type 0) (xs : List X) → ((k : ℕ) (x : X) → slice_get xs k ≡ Some x → P x) → AllByRecursion P xs
@@ -41,6 +42,10 @@ pub flattens_well : (side : Side) (text : List ℕ) (tree : Tree) → IsUtf8 tex
 flattens_well side text tree utf8 small read sense = λ none.
     let g = text_is_grammatical side text tree utf8 small read in
     (flattened_valid side tree g.ints g.scoped sense none, has_sections side tree g.ints g.scoped sense none)
+
+-- a text's program is valid
+pub valid_program : (side : Side) (text : List ℕ) (p : Listing) → IsUtf8 text → length text < 2 ^ 32 → IsProgramText side text p → IsValid p
+valid_program side text p utf8 short h = subst IsValid (sym h.flat) (flattens_well side text h.tree utf8 short h.read h.sense h.within).0
 
 -- the rules take what stands on the side that they read
 pub can_run : (r : Rules) (text : List ℕ) (p : Listing) → HasSections (side_for r text) p → CanRun r p

@@ -1,5 +1,5 @@
 -- The words are read as the shapes of the commands have them.
-use Rattle.std.proofs.Common.{◌≡◌, ◌⊎◌, inl, inr, ⊎_elim, ℕ, ◌+◌, ◌-◌, ◌<◌, ◌≤◌, Bool, true, false, ◌&&◌, nat_le, cond, List, [], ◌∷◌, codes, Option, Some, None, IfSome, option_and_then, refl, sym, ◌∙◌, ap, subst, arith}
+use Rattle.std.proofs.Common.{◌≡◌, ◌⊎◌, inl, inr, ⊎_elim, ℕ, ◌+◌, ◌-◌, ◌≤◌, Bool, true, false, ◌&&◌, nat_le, cond, List, [], ◌∷◌, codes, Option, Some, None, IfSome, option_and_then, refl, sym, ◌∙◌, ap, subst, arith}
 use Rattle.std.specs.Fmt.{decimal}
 use Rattle.std.specs.Str.{bytes_eq}
 use Rattle.std.proofs.lemmas.Bool.{and_parts}
@@ -14,7 +14,7 @@ use Rattle.mm_goto.specs.Models.{word_of}
 use Rattle.mm_run.specs.declared.command.Settings.{Settings}
 use Rattle.mm_run.specs.declared.command.Settings.TheVariants.{Instrument, Cycles, ReplaySc, Replay}
 use Rattle.mm_run.specs.Settings.{AskFor, IsThere, words_of}
-use Rattle.mm_run.specs.reading.Words.{bound_of, command_of, model_of, settings_of, with_bound, without_bound, woven_for}
+use Rattle.mm_run.specs.reading.Words.{bound_of, command_of, model_of, settings_of, with_bound, without_bound}
 
 -- ---- what is read is what the words say
 
@@ -59,18 +59,18 @@ bound_said (d ∷ []) k e =
 abbrev five : List ℕ → Model → ℕ → List (List ℕ)
 five word m k = word ∷ codes "--mm" ∷ word_of m ∷ codes "--bound" ∷ decimal k ∷ []
 
-woven_said : (word : List ℕ) (m : Model) (k : ℕ) (s : Settings) → word ≡ codes "instrument" → IsBound k → woven_for m k ≡ Some s → AskFor (five word m k) s
-woven_said word Pso k s e b h = cc
-woven_said word Tso k s e b h =
-    let same : Instrument Tso k ≡ s = cc in
-    subst (λ (s : Settings). AskFor (five word Tso k) s) same (record { there = (refl, b); shape = ap (λ w. five w Tso k) e })
-
 command_said : (word : List ℕ) (m : Model) (k : ℕ) (s : Settings) → IsBound k → command_of word m k ≡ Some s → AskFor (five word m k) s
 command_said word m k s b e =
-    ⊎_elim (λ h. woven_said word m k s (same_word word (codes "instrument") h.0) b h.1)
+    ⊎_elim instrument
     (λ h. ⊎_elim cycles (λ i. replay (only _ (Some (Replay m k)) s i)) (chosen (bytes_eq word (codes "cycles")) (Some (Cycles m k)) _ s h))
-    (chosen (bytes_eq word (codes "instrument")) (woven_for m k) _ s e)
+    (chosen (bytes_eq word (codes "instrument")) (Some (Instrument m k)) _ s e)
   where
+    instrument : (bytes_eq word (codes "instrument") ≡ true) × (Some (Instrument m k) ≡ Some s) → AskFor (five word m k) s
+    instrument h =
+        let f = h.1 in
+        let same : Instrument m k ≡ s = cc in
+        subst (λ (s : Settings). AskFor (five word m k) s) same (record { there = b; shape = ap (λ w. five w m k) (same_word word (codes "instrument") h.0) })
+
     cycles : (bytes_eq word (codes "cycles") ≡ true) × (Some (Cycles m k) ≡ Some s) → AskFor (five word m k) s
     cycles h =
         let f = h.1 in
@@ -139,9 +139,12 @@ cycles_read : (m : Model) (k : ℕ) → settings_of (words_of (Cycles m k)) ≡ 
 cycles_read Tso k = refl
 cycles_read Pso k = refl
 
+instrument_read : (m : Model) (k : ℕ) → settings_of (words_of (Instrument m k)) ≡ option_and_then (λ j. Some (Instrument m j)) (bound_of (decimal k))
+instrument_read Tso k = refl
+instrument_read Pso k = refl
+
 shape_read : (s : Settings) → IsThere s → settings_of (words_of s) ≡ Some s
-shape_read (Instrument Tso k) h = ap (λ o. option_and_then (λ j. Some (Instrument Tso j)) o) (bound_read k h.1)
-shape_read (Instrument Pso k) h = let e = h.0 in cc
+shape_read (Instrument m k) h = instrument_read m k ∙ ap (λ o. option_and_then (λ j. Some (Instrument m j)) o) (bound_read k h)
 shape_read (Cycles m k) h = cycles_read m k ∙ ap (λ o. option_and_then (λ j. Some (Cycles m j)) o) (bound_read k h)
 shape_read ReplaySc h = refl
 shape_read (Replay m k) h = replay_read m k ∙ ap (λ o. option_and_then (λ j. Some (Replay m j)) o) (bound_read k h)

@@ -8,17 +8,23 @@ use Rattle.mm_goto.specs.Bounds.{Bounding}
 use Rattle.mm_goto.specs.Listing.{Listing}
 use Rattle.mm_goto.specs.Place.{place_after, start}
 use Rattle.mm_goto.specs.declared.shape.Head.{Head}
+use Rattle.mm_goto.specs.declared.shape.Shape.{Shape}
 use Rattle.mm_graph.specs.declared.fault.GraphFault.TheVariants.{TooManySites, TooManyCells}
 use Rattle.mm_graph.specs.Graphs.{IsSmall}
 use Rattle.mm_graph.specs.Refusals.{IsRefused as IsTooLarge}
-use Rattle.mm_delay.specs.Plans.{IsHeadOf}
+use Rattle.mm_delay.specs.Plans.{IsHeadOf, IsPlanOf}
 use Rattle.mm_report.specs.Reports.{IsReport}
 use Rattle.mm_sched.specs.declared.entry.Rules.{Rules}
 use Rattle.mm_sched.specs.declared.entry.Rules.TheVariants.{Sc, Buffered}
 use Rattle.mm_sched.specs.Runs.{Reaches}
+use Rattle.mm_tree.specs.declared.side.Side.{Side}
 use Rattle.mm_tree.specs.declared.side.Side.TheVariants.{Source, Output}
 use Rattle.mm_print.specs.Meaning.{IsProgramOf}
-use Rattle.mm_print.specs.SmallText.{small_text}
+use Rattle.mm_print.specs.Items.{printed_text}
+use Rattle.mm_instr.specs.Woven.{woven}
+use Rattle.mm_small.specs.Flat.{listing_of}
+use Rattle.mm_small.specs.SmallTree.{IsWithinLimits}
+use Rattle.mm_small.specs.declared.tree.Small.{Small}
 use Rattle.mm_run.specs.declared.command.Settings.{Settings}
 use Rattle.mm_run.specs.declared.command.Settings.TheVariants.{Instrument, Cycles, ReplaySc, Replay}
 use Rattle.mm_run.specs.declared.status.Status.{Status}
@@ -27,30 +33,54 @@ use Rattle.mm_run.specs.Input.{IsWhole, IsTooLong}
 use Rattle.mm_run.specs.Lines.{refusal_line}
 use Rattle.mm_run.specs.Output.{AppendsPart}
 use Rattle.mm_run.specs.Parts.{IsNotUtf8, IsSplit, LacksPart}
-use Rattle.mm_run.specs.Program.{Intake, IsProgramText, IsRefused, any, run_by, small_source}
+use Rattle.mm_run.specs.Program.{IsNoProgram, IsProgramText, side_for}
 use Rattle.mm_run.specs.Outcome.{Outcome, TellsVerdict}
+
+-- ---- the size of a program
+
+-- the answer where a program is too large for an event graph
+pub data IsTooLargeFor (p : Listing) : Status → List ℕ → Type 0 where
+  too_many_sites : IsTooLarge p TooManySites
+      → IsTooLargeFor p Refused (refusal_line start (codes "too many sites"))
+  too_many_cells : IsTooLarge p TooManyCells
+      → IsTooLargeFor p Refused (refusal_line start (codes "too many shared cells"))
 
 -- ---- the woven program
 
--- q is what the text means that is printed for p, the model and the bound
-abbrev pub IsOut : Listing → Model → Bounding → Listing → Type 0
-IsOut p m bound q = IsProgramOf Output (small_text p m bound) q
+-- The output is the text of the woven program of p for its plan: just the stores that have a delay cycle are buffered, and the
+-- first lines list them.
+pub record IsWoven (p : Listing) (m : Model) (bound : Bounding) (out : List ℕ) : Type 0 where
+  pub shape : Shape
+  pub head : Head
+  pub plan : IsPlanOf p m bound shape head
+  pub text : out ≡ printed_text (woven p shape) head
+
+-- p is the goto program of a small program: main alone, which stores numbers and globals in globals and asserts that a global
+-- has a number
+pub record IsOfSmall (p : Listing) : Type 0 where
+  pub small : Small
+  pub within : IsWithinLimits small
+  pub flat : p ≡ listing_of small
 
 -- under sequential consistency q fails just the assertions that p fails with store buffers of this bound under the model
 abbrev pub FailsAsBuffered : Listing → Listing → Model → Bounding → Type 0
 FailsAsBuffered q p m bound = (n : ℕ) → Reaches Sc q n ↔ Reaches (Buffered m bound) p n
 
--- The output is the text of the woven program of p. It is a program of the same grammar, and any goto program that it has
--- fails under sequential consistency as p does with store buffers of this bound under the model.
-pub record IsWoven (p : Listing) (m : Model) (bound : Bounding) (out : List ℕ) : Type 0 where
-  pub text : out ≡ small_text p m bound
-  pub printed : (q : Listing) × IsOut p m bound q
-  pub alike : (q : Listing) → IsOut p m bound q → FailsAsBuffered q p m bound
+-- The output is a program of the same grammar, and any goto program that it has fails under sequential consistency as p does with
+-- store buffers of this bound under the model.
+pub record IsAlike (p : Listing) (m : Model) (bound : Bounding) (out : List ℕ) : Type 0 where
+  pub printed : (q : Listing) × IsProgramOf Output out q
+  pub alike : (q : Listing) → IsProgramOf Output out q → FailsAsBuffered q p m bound
 
--- the status and the output of `instrument` for a goto program
+-- the status and the output of `instrument` for a goto program; that the output fails alike is said of small programs
 pub data PrintsWoven (m : Model) (bound : Bounding) (p : Listing) : Status → List ℕ → Type 0 where
+  too_large : {status : Status} {out : List ℕ}
+      → IsTooLargeFor p status out
+      → PrintsWoven m bound p status out
   done : {out : List ℕ}
+      → IsSmall p
       → IsWoven p m bound out
+      → (IsOfSmall p → IsAlike p m bound out)
       → PrintsWoven m bound p Done out
 
 -- ---- delay cycles
@@ -58,10 +88,9 @@ pub data PrintsWoven (m : Model) (bound : Bounding) (p : Listing) : Status → L
 -- The status and the output of `cycles` for a goto program: the report on the stores that have a delay cycle, in one line, but where
 -- the program is too large for an event graph.
 pub data ReportsCycles (m : Model) (bound : Bounding) (p : Listing) : Status → List ℕ → Type 0 where
-  too_many_sites : IsTooLarge p TooManySites
-      → ReportsCycles m bound p Refused (refusal_line start (codes "too many sites"))
-  too_many_cells : IsTooLarge p TooManyCells
-      → ReportsCycles m bound p Refused (refusal_line start (codes "too many shared cells"))
+  too_large : {status : Status} {out : List ℕ}
+      → IsTooLargeFor p status out
+      → ReportsCycles m bound p status out
   reported : {line : List ℕ} (head : Head)
       → IsSmall p
       → IsHeadOf p m bound head
@@ -71,10 +100,10 @@ pub data ReportsCycles (m : Model) (bound : Bounding) (p : Listing) : Status →
 -- ---- parts of an input
 
 -- the text is refused, and the output says where and why
-pub data Refusing (taken : Intake) (text : List ℕ) : Status → List ℕ → Type 0 where
+pub data Refusing (side : Side) (text : List ℕ) : Status → List ℕ → Type 0 where
   refused : (at : At) (why : List ℕ)
-      → IsRefused taken text at why
-      → Refusing taken text Refused (refusal_line at why)
+      → IsNoProgram side text at why
+      → Refusing side text Refused (refusal_line at why)
 
 -- What a command answers for the goto program of its input, or for one and the text of a schedule.
 abbrev pub ProgramAnswer : Type 1
@@ -84,28 +113,28 @@ abbrev pub ScheduleAnswer : Type 1
 ScheduleAnswer = Listing → List ℕ → Status → List ℕ → Type 0
 
 -- the status and the output of a command that takes a program
-pub data AnswersProgram (taken : Intake) (Gives : ProgramAnswer) (input : List ℕ) : Status → List ℕ → Type 0 where
+pub data AnswersProgram (side : Side) (Gives : ProgramAnswer) (input : List ℕ) : Status → List ℕ → Type 0 where
   refused : {status : Status} {out : List ℕ}
-      → Refusing taken input status out
-      → AnswersProgram taken Gives input status out
+      → Refusing side input status out
+      → AnswersProgram side Gives input status out
   program : {status : Status} {out : List ℕ} (p : Listing)
-      → IsProgramText taken input p
+      → IsProgramText side input p
       → Gives p status out
-      → AnswersProgram taken Gives input status out
+      → AnswersProgram side Gives input status out
 
--- the status and the output of a command that takes a program and a schedule, by what it takes for a program of this text
-pub data AnswersParts (taken : List ℕ → Intake) (Gives : ScheduleAnswer) (input : List ℕ) : Status → List ℕ → Type 0 where
+-- the status and the output of a command that takes a program and a schedule, by the side on which a program of this text is read
+pub data AnswersParts (side_of : List ℕ → Side) (Gives : ScheduleAnswer) (input : List ℕ) : Status → List ℕ → Type 0 where
   one_part : LacksPart input
-      → AnswersParts taken Gives input Refused (refusal_line (place_after (chars input)) (codes "missing part"))
+      → AnswersParts side_of Gives input Refused (refusal_line (place_after (chars input)) (codes "missing part"))
   refused : {status : Status} {out : List ℕ} (program schedule : List ℕ)
       → IsSplit input program schedule
-      → Refusing (taken program) program status out
-      → AnswersParts taken Gives input status out
+      → Refusing (side_of program) program status out
+      → AnswersParts side_of Gives input status out
   both : {status : Status} {out : List ℕ} (program schedule : List ℕ) (p : Listing)
       → IsSplit input program schedule
-      → IsProgramText (taken program) program p
+      → IsProgramText (side_of program) program p
       → Gives p schedule status out
-      → AnswersParts taken Gives input status out
+      → AnswersParts side_of Gives input status out
 
 -- ---- the whole input
 
@@ -115,10 +144,10 @@ Replays r p = Outcome r p TellsVerdict
 
 -- the status and the output for an input that is a text
 abbrev pub AnswersText : Settings → List ℕ → Status → List ℕ → Type 0
-AnswersText (Instrument m bound) = AnswersProgram small_source (PrintsWoven m bound)
-AnswersText (Cycles m bound) = AnswersProgram (any Source) (ReportsCycles m bound)
-AnswersText ReplaySc = AnswersParts (run_by Sc) (Replays Sc)
-AnswersText (Replay m bound) = AnswersParts (run_by (Buffered m bound)) (Replays (Buffered m bound))
+AnswersText (Instrument m bound) = AnswersProgram Source (PrintsWoven m bound)
+AnswersText (Cycles m bound) = AnswersProgram Source (ReportsCycles m bound)
+AnswersText ReplaySc = AnswersParts (side_for Sc) (Replays Sc)
+AnswersText (Replay m bound) = AnswersParts (side_for (Buffered m bound)) (Replays (Buffered m bound))
 
 -- the status and the output for an input of at most the greatest length
 pub data AnswersWhole (s : Settings) (input : List ℕ) : Status → List ℕ → Type 0 where

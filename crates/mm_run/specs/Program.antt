@@ -22,21 +22,7 @@ use Rattle.mm_parse.specs.Faults.{IsFault}
 use Rattle.mm_names.specs.declared.refusal.NameFault.{NameFault}
 use Rattle.mm_names.specs.declared.refusal.NameFault.TheVariants.{NoMain, ReservedName, OutputOnly, TwiceDeclared, UnknownName, WrongType, BadThread, Recursion}
 use Rattle.mm_names.specs.Programs.{IsAccepted as MakesSense, IsRefused as IsNameFault}
-use Rattle.mm_small.specs.SmallProgram.{IsSmall}
 use Rattle.mm_grammar.specs.Meaning.{IsTreeOf}
-
--- What a command takes for a program: the side on which it reads the text, and which of the programs read there are built.
-pub record Intake : Type 1 where
-  pub side : Side
-  pub IsBuilt : Tree → Type 0
-
--- a source that is a small program
-abbrev pub small_source : Intake
-small_source = record { side = Source; IsBuilt = IsSmall }
-
--- any program of the side
-abbrev pub any : Side → Intake
-any side = record { side = side; IsBuilt = λ tree. Unit {0} }
 
 -- the text begins as a printed program does
 abbrev pub is_printed : List ℕ → Bool
@@ -48,19 +34,14 @@ side_for Sc text = if is_printed text then Output else Source
 side_for (Buffered m bound) text = Source
 side_for (Partial m bound buffered) text = Source
 
--- what is run by the rules
-abbrev pub run_by : Rules → List ℕ → Intake
-run_by r text = any (side_for r text)
-
--- The text has the tree of a program whose names and types make sense, which passes no limit and is built, and flattened it is
--- this goto program.
-pub record IsProgramText (taken : Intake) (text : List ℕ) (p : Listing) : Type 0 where
+-- The text has the tree of a program whose names and types make sense, and which passes no limit, and flattened it is this goto
+-- program.
+pub record IsProgramText (side : Side) (text : List ℕ) (p : Listing) : Type 0 where
   pub tree : Tree
-  pub read : IsTreeOf taken.side text tree
-  pub sense : MakesSense taken.side tree
-  pub within : limit_passed taken.side tree ≡ None
-  pub built : taken.IsBuilt tree
-  pub flat : p ≡ program_of taken.side tree
+  pub read : IsTreeOf side text tree
+  pub sense : MakesSense side tree
+  pub within : limit_passed side tree ≡ None
+  pub flat : p ≡ program_of side tree
 
 -- the text has tokens, and this is their fault
 pub record HasFault (side : Side) (text : List ℕ) (fault : ParseFault) : Type 0 where
@@ -80,14 +61,6 @@ pub record PassesLimit (side : Side) (text : List ℕ) (limit : Limit) : Type 0 
   pub read : IsTreeOf side text tree
   pub sense : MakesSense side tree
   pub passed : limit_passed side tree ≡ Some limit
-
--- the text has the tree of a program that makes sense, passes no limit and is not built
-pub record IsNotBuilt (taken : Intake) (text : List ℕ) : Type 0 where
-  pub tree : Tree
-  pub read : IsTreeOf taken.side text tree
-  pub sense : MakesSense taken.side tree
-  pub within : limit_passed taken.side tree ≡ None
-  pub not_built : taken.IsBuilt tree → ⊥
 
 -- what is said of a limit that is passed
 abbrev pub limit_words : Limit → List ℕ
@@ -142,10 +115,3 @@ pub data IsNoProgram (side : Side) (text : List ℕ) : At → List ℕ → Type 
   too_many : (limit : Limit)
       → PassesLimit side text limit
       → IsNoProgram side text start (limit_words limit)
-
--- the text is refused at the place, for what these words say: it is no program, or one that is not built
-pub data IsRefused (taken : Intake) (text : List ℕ) : At → List ℕ → Type 0 where
-  no_program : {at : At} {why : List ℕ}
-      → IsNoProgram taken.side text at why
-      → IsRefused taken text at why
-  not_built : IsNotBuilt taken text → IsRefused taken text start (codes "not built")

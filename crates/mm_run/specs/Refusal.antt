@@ -7,7 +7,7 @@ use Rattle.mm_tree.specs.declared.side.Side.{Side}
 use Rattle.mm_run.specs.declared.status.Status.{Status}
 use Rattle.mm_run.specs.declared.status.Status.TheVariants as status
 use Rattle.mm_run.specs.Lines.{refusal_line}
-use Rattle.mm_run.specs.Program.{IsNoProgram, IsRefused, small_source}
+use Rattle.mm_run.specs.Program.{IsNoProgram}
 
 -- the fault is a refusal at this place, for this reason; want of memory says nothing
 abbrev pub Says : ProgramFault → At → List ℕ → Type 0
@@ -18,11 +18,6 @@ Says NoMemory at why = Unit {0}
 abbrev pub Rejects : Side → List ℕ → ProgramFault → Type 0
 Rejects side text (Refused r) = IsNoProgram side text r.at (string_bytes r.why)
 Rejects side text NoMemory = Unit {0}
-
--- the fault is a refusal of a text that must be a small program
-abbrev pub Refuses : List ℕ → ProgramFault → Type 0
-Refuses text (Refused r) = IsRefused small_source text r.at (string_bytes r.why)
-Refuses text NoMemory = Unit {0}
 
 -- the status and the output say the fault
 abbrev pub Tells : ProgramFault → Status → List ℕ → Type 0

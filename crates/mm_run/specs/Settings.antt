@@ -1,7 +1,6 @@
 -- The shapes of the command line.
 use Rattle.std.specs.Prelude.{◌≡◌, ℕ, List, [], ◌∷◌, codes}
 use Rattle.std.specs.Fmt.{decimal}
-use Rattle.mm_goto.specs.declared.model.Model.TheVariants.{Tso}
 use Rattle.mm_goto.specs.Bounds.{IsBound}
 use Rattle.mm_goto.specs.Models.{word_of}
 use Rattle.mm_run.specs.declared.command.Settings.{Settings}
@@ -14,9 +13,9 @@ words_of (Cycles m bound) = codes "cycles" ∷ codes "--mm" ∷ word_of m ∷ co
 words_of ReplaySc = codes "replay" ∷ codes "--mm" ∷ codes "sc" ∷ []
 words_of (Replay m bound) = codes "replay" ∷ codes "--mm" ∷ word_of m ∷ codes "--bound" ∷ decimal bound ∷ []
 
--- which commands there are: the bound is 1 to 8, and `instrument` is there for TSO alone
+-- which commands there are: the bound is 1 to 8
 abbrev pub IsThere : Settings → Type 0
-IsThere (Instrument m bound) = (m ≡ Tso) × IsBound bound
+IsThere (Instrument m bound) = IsBound bound
 IsThere (Cycles m bound) = IsBound bound
 IsThere ReplaySc = Unit {0}
 IsThere (Replay m bound) = IsBound bound

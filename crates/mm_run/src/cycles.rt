@@ -1,35 +1,19 @@
 ghost use Rattle.std.specs.Prelude.{◌≡◌, ◌≤◌, length, IfOk, string_bytes};
-ghost use Rattle.mm_goto.specs.Listing.{Listing};
-ghost use Rattle.mm_goto.specs.declared.model.Model.{Model as ModelOf};
-ghost use Rattle.mm_goto.specs.Bounds.{Bounding};
 ghost use Rattle.mm_graph.specs.Graphs.{IsGraphOf};
-ghost use Rattle.mm_graph.specs.Refusals.{IsRefused};
 ghost use Rattle.mm_tree.specs.declared.side.Side.TheVariants.{Source};
 ghost use Rattle.mm_run.specs.Answer.{AnswersProgram, ReportsCycles};
-ghost use Rattle.mm_run.specs.Program.{any};
 
-use crate::answer::{Answer, answer_fault, refused};
+use crate::answer::{Answer, answer_fault};
+use crate::event_graph::{event_graph, too_large};
 use crate::input::MAX_INPUT;
 use crate::program::any_program;
 use crate::status::Status;
 use mm_delay::head;
-use mm_goto::{At, Bound, Model, NoMemory, Program};
-use mm_graph::{Graph, GraphFault, graph, has_graph};
-use mm_points::points_to;
+use mm_goto::{Bound, Model, NoMemory, Program};
+use mm_graph::Graph;
 use mm_report::report;
 use mm_tree::Side;
 use std::alloc::Global;
-
-// The answer where the program is too large for an event graph.
-fn too_large(alloc: Global, fault: GraphFault) -> Result<Answer, NoMemory>
-    ensures { IfOk result (λ answer. (m : ModelOf) (bound : Bounding) (p : Listing) → IsRefused p fault → ReportsCycles m bound p answer.status (string_bytes answer.output)) }
-{
-    match fault {
-        GraphFault::TooManySites => refused(alloc, At::start(), "too many sites"),
-        GraphFault::TooManyCells => refused(alloc, At::start(), "too many shared cells"),
-        GraphFault::NoMemory => Err(NoMemory),
-    }
-}
 
 // The report on the program, by its graph.
 fn reported(
@@ -60,11 +44,7 @@ fn report_on(
 ) -> Result<Answer, NoMemory>
     ensures { IfOk result (λ answer. ReportsCycles model bound program.now answer.status (string_bytes answer.output)) }
 {
-    if let Err(fault) = has_graph(alloc, program) {
-        return too_large(alloc, fault);
-    }
-    let points = points_to(alloc, program)?;
-    match graph(alloc, program, &points) {
+    match event_graph(alloc, program) {
         Ok(graph) => reported(alloc, program, &graph, model, bound),
         Err(fault) => too_large(alloc, fault),
     }
@@ -78,7 +58,7 @@ pub fn answer_cycles(
     input: &str,
 ) -> Result<Answer, NoMemory>
     requires { length input.now ≤ MAX_INPUT }
-    ensures { IfOk result (λ answer. AnswersProgram (any Source) (ReportsCycles model bound) input.now answer.status (string_bytes answer.output)) }
+    ensures { IfOk result (λ answer. AnswersProgram Source (ReportsCycles model bound) input.now answer.status (string_bytes answer.output)) }
 {
     match any_program(alloc, input, Side::Source) {
         Ok(program) => report_on(alloc, &program, model, bound),

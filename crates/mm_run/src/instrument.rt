@@ -1,28 +1,74 @@
-ghost use Rattle.std.specs.Prelude.{◌≡◌, ◌≤◌, ℕ, List, length, IfOk, string_bytes};
+ghost use Rattle.std.specs.Prelude.{◌≡◌, ◌≤◌, length, IfOk, string_bytes};
 ghost use Rattle.mm_goto.specs.Valid.{IsValid};
+ghost use Rattle.mm_graph.specs.Graphs.{IsGraphOf};
+ghost use Rattle.mm_tree.specs.declared.side.Side.TheVariants.{Source};
 ghost use Rattle.mm_run.specs.Answer.{AnswersProgram, IsWoven, PrintsWoven};
-ghost use Rattle.mm_run.specs.Program.{IsProgramText, small_source};
 
 use crate::answer::{Answer, answer_fault};
+use crate::event_graph::{event_graph, too_large};
 use crate::input::MAX_INPUT;
-use crate::program::small_program;
+use crate::program::any_program;
 use crate::status::Status;
+use mm_delay::plan;
 use mm_goto::{Bound, Model, NoMemory, Program};
-use mm_print::print_small;
+use mm_graph::Graph;
+use mm_instr::instrument;
+use mm_print::print;
+use mm_tree::Side;
 use std::alloc::Global;
 
-// The text of the woven program of a small program.
-fn weave(alloc: Global, program: &Program, model: Model, bound: Bound) -> Result<String, NoMemory>
-    requires { IsValid program.now }
-    ensures { IfOk result (λ text. (input : List ℕ) → IsProgramText small_source input program.now → IsWoven program.now model bound (string_bytes text)) }
+// The text of the woven program, for its plan.
+fn weave(
+    alloc: Global,
+    program: &Program,
+    graph: &Graph,
+    model: Model,
+    bound: Bound,
+) -> Result<String, NoMemory>
+    requires { IsGraphOf program.now graph.now }
+    ensures { IfOk result (λ text. IsWoven program.now model bound (string_bytes text)) }
 {
-    // It is 1 at least: each thread may have a pending store.
+    let (shape, head) = plan(alloc, program, graph, model, bound)?;
+    let tree = instrument(alloc, program, &shape)?;
+    print(alloc, &tree, &head)
+}
+
+// The woven program, by the program's event graph.
+fn woven(
+    alloc: Global,
+    program: &Program,
+    graph: &Graph,
+    model: Model,
+    bound: Bound,
+) -> Result<Answer, NoMemory>
+    requires graph { IsGraphOf program.now graph.now }
+    ensures { IfOk result (λ answer. PrintsWoven model bound program.now answer.status (string_bytes answer.output)) }
+{
+    // A program is valid, and a bound is 1 at least: each thread may have a pending store.
+    program.threads();
     bound.get();
-    print_small(alloc, program, model, bound)
+    Ok(Answer {
+        status: Status::Done,
+        output: weave(alloc, program, graph, model, bound)?,
+    })
+}
+
+// The woven program, or that the program is too large.
+fn weave_program(
+    alloc: Global,
+    program: &Program,
+    model: Model,
+    bound: Bound,
+) -> Result<Answer, NoMemory>
+    ensures { IfOk result (λ answer. PrintsWoven model bound program.now answer.status (string_bytes answer.output)) }
+{
+    match event_graph(alloc, program) {
+        Ok(graph) => woven(alloc, program, &graph, model, bound),
+        Err(fault) => too_large(alloc, fault),
+    }
 }
 
 /// The answer of `instrument` to the text of a program.
-#[tactic(auto, using(crate::proofs::Answering::prints_woven))]
 pub fn answer_instrument(
     alloc: Global,
     model: Model,
@@ -30,13 +76,10 @@ pub fn answer_instrument(
     input: &str,
 ) -> Result<Answer, NoMemory>
     requires { length input.now ≤ MAX_INPUT }
-    ensures { IfOk result (λ answer. AnswersProgram small_source (PrintsWoven model bound) input.now answer.status (string_bytes answer.output)) }
+    ensures { IfOk result (λ answer. AnswersProgram Source (PrintsWoven model bound) input.now answer.status (string_bytes answer.output)) }
 {
-    match small_program(alloc, input) {
-        Ok(program) => Ok(Answer {
-            status: Status::Done,
-            output: weave(alloc, &program, model, bound)?,
-        }),
+    match any_program(alloc, input, Side::Source) {
+        Ok(program) => weave_program(alloc, &program, model, bound),
         Err(fault) => answer_fault(alloc, fault),
     }
 }

@@ -4,6 +4,7 @@
 mod answer;
 mod command;
 mod cycles;
+mod event_graph;
 mod input;
 mod instrument;
 pub mod laws;

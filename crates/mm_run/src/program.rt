@@ -1,5 +1,4 @@
 ghost use Rattle.std.specs.Prelude.{◌≡◌, ◌≢◌, ◌≤◌, ◌++◌, ℕ, List, length, codes, string_bytes, IfOk, IfErr, OnOk, None};
-ghost use Rattle.mm_goto.specs.Valid.{IsValid};
 ghost use Rattle.mm_lexer.specs.Tokens.{AreTokens, IsFirstFault};
 ghost use Rattle.mm_lexer.specs.declared.token.Token.{Token as TokenValue};
 ghost use Rattle.mm_tree.specs.declared.item.Tree.{Tree as TreeValue};
@@ -9,8 +8,8 @@ ghost use Rattle.mm_flow.specs.Programs.{limit_passed, program_of as flattened};
 ghost use Rattle.mm_names.specs.Programs.{IsAccepted as MakesSense, IsRefused as IsNameFault};
 ghost use Rattle.mm_tree.specs.declared.side.Side.{Side as SideValue};
 ghost use Rattle.mm_parse.specs.Faults.{IsFault};
-ghost use Rattle.mm_run.specs.Program.{IsProgramText, any, limit_words, small_source};
-ghost use Rattle.mm_run.specs.Refusal.{Rejects, Refuses, Says};
+ghost use Rattle.mm_run.specs.Program.{IsProgramText, limit_words};
+ghost use Rattle.mm_run.specs.Refusal.{Rejects, Says};
 ghost use Rattle.mm_run.specs.reading.Sound.{FlattensWell, HasSections};
 
 use crate::input::MAX_INPUT;
@@ -19,7 +18,6 @@ use mm_goto::{At, Program};
 use mm_lexer::{LexFault, lex};
 use mm_names::{Checked, NameFault, check_owned};
 use mm_parse::{ParseFault, parse};
-use mm_small::{SmallFault, small};
 use mm_tree::{Side, Tree};
 use std::alloc::Global;
 
@@ -156,27 +154,10 @@ fn flat(alloc: Global, tree: &Tree, side: Side) -> Result<Program, ProgramFault>
 /// grammar, names and types, and limits.
 pub fn any_program(alloc: Global, text: &str, side: Side) -> Result<Program, ProgramFault>
     requires { length text.now ≤ MAX_INPUT }
-    ensures program { IfOk result (λ program. IsProgramText (any side) text.now program) }
+    ensures program { IfOk result (λ program. IsProgramText side text.now program) }
     ensures sections { IfOk result (HasSections side) }
     ensures refused { IfErr result (λ fault. Rejects side text.now fault) }
 {
     let checked = checked_tree(alloc, text, side)?;
     flat(alloc, &checked.tree, side)
-}
-
-/// The goto program of a small program, or why the text is refused: by the first of the stages of a source that refuses it, or as
-/// not built.
-pub fn small_program(alloc: Global, text: &str) -> Result<Program, ProgramFault>
-    requires { length text.now ≤ MAX_INPUT }
-    ensures program { IfOk result (λ program. IsProgramText small_source text.now program) }
-    ensures valid { IfOk result IsValid }
-    ensures refused { IfErr result (λ fault. Refuses text.now fault) }
-{
-    let checked = checked_tree(alloc, text, Side::Source)?;
-    flat(alloc, &checked.tree, Side::Source)?;
-    match small(alloc, &checked.tree) {
-        Ok(program) => Ok(program),
-        Err(SmallFault::NotBuilt) => Err(refuse(alloc, At::start(), "not built")),
-        Err(SmallFault::NoMemory) => Err(ProgramFault::NoMemory),
-    }
 }

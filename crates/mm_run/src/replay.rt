@@ -8,7 +8,7 @@ ghost use Rattle.mm_sched.specs.State.{initial};
 ghost use Rattle.mm_sched.specs.ScheduleText.{IsFault, IsSchedule, entries_in};
 ghost use Rattle.mm_run.specs.Answer.{AnswersParts, Replays};
 ghost use Rattle.mm_run.specs.Lines.{bad_line, refusal_line, stuck_line, verdict_line};
-ghost use Rattle.mm_run.specs.Program.{is_printed, run_by, side_for};
+ghost use Rattle.mm_run.specs.Program.{is_printed, side_for};
 ghost use Rattle.mm_run.specs.reading.Sound.{CanRun};
 ghost use Rattle.mm_run.specs.reading.Whole.{IsWholeMachine};
 
@@ -164,7 +164,7 @@ fn side_for(rules: &Rules, text: &str) -> Side
 pub fn answer_replay(alloc: Global, rules: &Rules, input: &str) -> Result<Answer, NoMemory>
     requires whole { IsWholeMachine rules.now }
     requires length { length input.now ≤ MAX_INPUT }
-    ensures { IfOk result (λ answer. AnswersParts (run_by rules.now) (Replays rules.now) input.now answer.status (string_bytes answer.output)) }
+    ensures { IfOk result (λ answer. AnswersParts (side_for rules.now) (Replays rules.now) input.now answer.status (string_bytes answer.output)) }
 {
     match split(input) {
         Some((program, schedule)) => match any_program(alloc, program, side_for(rules, program)) {

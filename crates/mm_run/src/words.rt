@@ -1,7 +1,7 @@
 ghost use Rattle.std.specs.Prelude.{◌≡◌, map, string_bytes, IfSome, None};
 ghost use Rattle.mm_run.specs.declared.command.Settings.{Settings as Command};
 ghost use Rattle.mm_run.specs.Settings.{AskFor};
-ghost use Rattle.mm_run.specs.reading.Words.{bound_of, command_of, model_of, settings_of, with_bound, without_bound, woven_for};
+ghost use Rattle.mm_run.specs.reading.Words.{bound_of, command_of, model_of, settings_of, with_bound, without_bound};
 
 use crate::command::Settings;
 use mm_goto::{Bound, Model};
@@ -33,20 +33,11 @@ fn model_of(word: &str) -> Option<Model>
     }
 }
 
-fn woven_for(model: Model, bound: Bound) -> Option<Settings>
-    ensures { result ≡ woven_for model bound }
-{
-    match model {
-        Model::Tso => Some(Settings::Instrument(Model::Tso, bound)),
-        Model::Pso => None,
-    }
-}
-
 fn command_of(word: &str, model: Model, bound: Bound) -> Option<Settings>
     ensures { result ≡ command_of word.now model bound }
 {
     match word {
-        "instrument" => woven_for(model, bound),
+        "instrument" => Some(Settings::Instrument(model, bound)),
         "cycles" => Some(Settings::Cycles(model, bound)),
         "replay" => Some(Settings::Replay(model, bound)),
         _ => None,

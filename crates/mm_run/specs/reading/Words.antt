@@ -16,15 +16,10 @@ abbrev pub bound_of : List ℕ → Option ℕ
 bound_of (digit ∷ []) = if nat_le 49 digit && nat_le digit 56 then Some (digit - 48) else None
 bound_of _ = None
 
--- instrument is there for TSO alone
-abbrev pub woven_for : Model → ℕ → Option Settings
-woven_for Tso k = Some (Instrument Tso k)
-woven_for Pso k = None
-
 -- instrument, cycles or replay, with its model and its bound
 abbrev pub command_of : List ℕ → Model → ℕ → Option Settings
 command_of word m k =
-    if bytes_eq word (codes "instrument") then woven_for m k
+    if bytes_eq word (codes "instrument") then Some (Instrument m k)
     else if bytes_eq word (codes "cycles") then Some (Cycles m k)
     else if bytes_eq word (codes "replay") then Some (Replay m k)
     else None

@@ -1,4 +1,4 @@
-use Rattle.std.proofs.Common.{◌≡◌, ◌∙◌, string_bytes, ap, subst, sym}
+use Rattle.std.proofs.Common.{◌∙◌, string_bytes, ap, subst, sym}
 use Rattle.mm_run.specs.declared.answer.Answer.{Answer}
 use Rattle.mm_run.specs.declared.program.ProgramFault.{ProgramFault}
 use Rattle.mm_run.specs.Lines.{refusal_line}

@@ -1,7 +1,10 @@
-use Rattle.mm_run.proofs.Answering.{if_ok}
-use Rattle.mm_run.proofs.Refused.{refuses_small}
 use Rattle.mm_run.specs.Answer.{AnswersProgram}
+use Rattle.mm_run.proofs.Answering.{if_ok}
+use Rattle.mm_run.proofs.Refused.{rejects_any}
 use Rattle.mm_run.proofs.instrument.answer_instrument.Goals as goal
 
+pub returns-in-Ok : goal.returns-in-Ok
+returns-in-Ok c = if_ok _ _ _ c.weave_program.ensures (λ a h. AnswersProgram.program _ c.in-Ok.ensures.program h)
+
 pub returns-in-Err : goal.returns-in-Err
-returns-in-Err c = if_ok _ _ _ c.answer_fault.ensures (λ a h. AnswersProgram.refused (refuses_small c.args.input.now _ _ _ h c.in-Err.ensures.refused))
+returns-in-Err c = if_ok _ _ _ c.answer_fault.ensures (λ a h. AnswersProgram.refused (rejects_any _ _ _ _ _ h c.in-Err.ensures.refused))

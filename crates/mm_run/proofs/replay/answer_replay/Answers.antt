@@ -1,8 +1,8 @@
-use Rattle.std.proofs.Common.{◌≡◌, subst}
+use Rattle.std.proofs.Common.{subst}
 use Rattle.mm_tree.specs.declared.side.Side.{Side}
 use Rattle.mm_run.specs.declared.answer.Answer.{Answer}
 use Rattle.mm_run.specs.Answer.{AnswersParts}
-use Rattle.mm_run.specs.Program.{IsProgramText, any}
+use Rattle.mm_run.specs.Program.{IsProgramText}
 use Rattle.mm_run.specs.Refusal.{Rejects}
 use Rattle.mm_run.proofs.Answering.{if_ok, one_part}
 use Rattle.mm_run.proofs.Refused.{rejects_any}
@@ -13,7 +13,7 @@ returns-in-None c = if_ok _ _ _ c.missing_part.ensures (λ (a : Answer) h. one_p
 
 pub returns-in-Ok : goal.returns-in-Ok
 returns-in-Ok c =
-    let p = subst (λ (side : Side). IsProgramText (any side) c.in-Some.program.now c.in-Ok.program) c.side_for.ensures c.in-Ok.ensures.program in
+    let p = subst (λ (side : Side). IsProgramText side c.in-Some.program.now c.in-Ok.program) c.side_for.ensures c.in-Ok.ensures.program in
     if_ok _ _ _ c.replay_text.ensures (λ a h. AnswersParts.both _ _ _ c.in-Some.ensures p h)
 
 pub returns-in-Err : goal.returns-in-Err

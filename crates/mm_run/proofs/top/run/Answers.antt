@@ -1,4 +1,3 @@
-use Rattle.std.proofs.Common.{◌∙◌}
 use Rattle.mm_run.proofs.Answered.{ends_for, breaks_off_for}
 use Rattle.mm_run.proofs.Completing.{complete}
 use Rattle.mm_run.proofs.Wording.{one_command}

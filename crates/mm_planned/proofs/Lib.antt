@@ -1,0 +1,5 @@
+pub mod Existing
+pub mod OneHead
+pub mod Rows
+pub mod SomeHead
+pub mod Unique
