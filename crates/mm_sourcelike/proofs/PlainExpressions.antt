@@ -31,7 +31,7 @@ use Rattle.mm_sourcelike.proofs.Evaluating.{all_left, all_right, node_ints}
 use Rattle.mm_sourcelike.proofs.Checking.{false_is_not}
 use Rattle.mm_sourcelike.proofs.Growth.{node_reading}
 use Rattle.mm_sourcelike.proofs.Laying.{Each}
-use Rattle.mm_sourcelike.proofs.PlainPures.{Plain, plain_up, constant_plain, local_plain, address_plain, element_plain, applied_plain, combined_plain, chosen_plain, is_lazy, range_plain, not_zero_plain, constant_whole, local_whole, address_whole, applied_whole, combined_whole, chosen_whole}
+use Rattle.mm_sourcelike.proofs.PlainPures.{Asserted, Plain, plain_asserted, plain_up, constant_plain, local_plain, address_plain, element_plain, applied_plain, combined_plain, chosen_plain, is_lazy, range_asserted, not_zero_plain, constant_whole, local_whole, address_whole, applied_whole, combined_whole, chosen_whole}
 use Rattle.mm_sourcelike.proofs.Tables.{true_is_not}
 use Rattle.mm_sourcelike.proofs.Validity.{first_false, second_false}
 
@@ -57,7 +57,7 @@ PlainInstr (instr.Store t e) = PlainTarget t × IsPlainBeside e
 PlainInstr (instr.Input l) = Unit {0}
 PlainInstr (instr.Jump k) = Unit {0}
 PlainInstr (instr.Branch e k) = IsPlain e
-PlainInstr (instr.Assert e n) = IsPlain e
+PlainInstr (instr.Assert e n) = Asserted 410 210 e
 PlainInstr (instr.Assume e) = IsPlain e
 PlainInstr instr.Fence = Unit {0}
 PlainInstr (instr.Lock m) = Unit {0}
@@ -93,6 +93,13 @@ beside_plain m e l h = plain_up m 205 m 205 e (omega (arith, l)) (omega (arith, 
 pub not_zero_alone : (m : ℕ) (e : Pure) → m ≤ 200 → Plain m m e → IsPlain (is_not_zero e)
 not_zero_alone m e l h = plain_up (m + 2) 410 (m + 2) 210 (is_not_zero e) (omega (arith, l)) (omega (arith, l)) (not_zero_plain m e h)
 
+-- and so it may be asserted
+pub not_zero_asserted : (m : ℕ) (e : Pure) → m ≤ 200 → Plain m m e → Asserted 410 210 (is_not_zero e)
+not_zero_asserted m e l h = plain_asserted 410 210 (is_not_zero e) (not_zero_alone m e l h)
+
+asserted_up : (m n d k : ℕ) (e : Pure) → m ≤ n → d ≤ k → Asserted m d e → Asserted n k e
+asserted_up m n d k e l g h = record { size = omega (arith, l, h.size); height = omega (arith, g, h.height); signs = h.signs; alone = h.alone }
+
 -- ---- accesses
 
 pub cell_plain : (s : Spot) (n : ℕ) → PlainAim (cell s n)
@@ -103,12 +110,12 @@ loaded_plain at a h = record { flow = (h.flow, h.target); pure = local_plain a.n
 
 pub indexed_plain : (at : At) (s : Spot) (m : ℕ) (i : Val) → m ≤ 200 → PlainVal m i → PlainAim (indexed at s i)
 indexed_plain at s m i l h = record {
-  flow = (h.flow, plain_up (m + m + 5) 410 (m + 3) 210 _ (omega (arith, l)) (omega (arith, l)) (range_plain m i.pure s.len h.pure));
+  flow = (h.flow, asserted_up (m + m + 5) 410 (m + 3) 210 _ (omega (arith, l)) (omega (arith, l)) (range_asserted m i.pure s.len h.pure));
   target = plain_up m 200 m 200 i.pure l l h.pure;
 }
 
 pub followed_plain : (at : At) (m : ℕ) (v : Val) → m ≤ 200 → PlainVal m v → PlainAim (followed at v)
-followed_plain at m v l h = record { flow = (h.flow, not_zero_alone m v.pure l h.pure); target = plain_up m 200 m 200 v.pure l l h.pure }
+followed_plain at m v l h = record { flow = (h.flow, not_zero_asserted m v.pure l h.pure); target = plain_up m 200 m 200 v.pure l l h.pure }
 
 address_at_plain : (at : At) (s : Spot) (m : ℕ) (i : Val) → m ≤ 200 → PlainVal m i → PlainVal (m + 1) (address_at at s i)
 address_at_plain at s m i l h = record { flow = (indexed_plain at s m i l h).flow; pure = element_plain m m s.first s.len i.pure h.pure }
@@ -117,7 +124,7 @@ pub division_plain : (op : Binary) (at : At) (m : ℕ) (e : Pure) → m ≤ 200 
 division_plain op at m e l h = by (is_division op)
   where
     by : (b : Bool) → PlainFlow (if b then Do at (instr.Assert (is_not_zero e) 0) else Empty)
-    by true = not_zero_alone m e l h
+    by true = not_zero_asserted m e l h
     by false = tt
 
 -- ---- operators
@@ -165,7 +172,7 @@ binary_plain at op Both code m n a b is l ha hb hd =
     record {
       flow = (ha.flow, (c.flow, division_plain op at n (b a.next).pure (omega (arith, l)) c.pure));
       pure = plain_up (m + n + 1) (m + n + 1) (m + n + 1) (m + n + 1) _ (omega arith) (omega arith)
-          (combined_plain m n m n (m + n) op a.pure (b a.next).pure (omega arith) (omega arith) ha.pure c.pure (λ z. inl (hd a.next (no_code_behind op code is z))));
+          (combined_plain m n m n (m + n) op a.pure (b a.next).pure (omega arith) (omega arith) ha.pure c.pure (λ z. hd a.next (no_code_behind op code is z)));
     }
 
 cond_plain : (at : At) (choice : Bool) (l m n : ℕ) (c : Val) (a b : ℕ → Val) → l + m + n + 1 ≤ 200 → PlainVal l c → ((k : ℕ) → PlainVal m (a k)) → ((k : ℕ) → PlainVal n (b k)) → ((k : ℕ) → choice ≡ false → divides (a k).pure ≡ false) → ((k : ℕ) → choice ≡ false → divides (b k).pure ≡ false)

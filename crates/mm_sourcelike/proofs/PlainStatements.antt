@@ -39,7 +39,7 @@ use Rattle.mm_sourcelike.proofs.Checking.{false_is_not}
 use Rattle.mm_sourcelike.proofs.Evaluating.{all_left, all_right, node_ints}
 use Rattle.mm_sourcelike.proofs.Lengthening.{node_code}
 use Rattle.mm_sourcelike.proofs.PlainExpressions.{IsPlain, PlainFlow, PlainVal, PlainAim, val_up, alone_plain, beside_plain, cell_plain, indexed_plain, followed_plain, division_plain, one_plain, node_length, expr_plain}
-use Rattle.mm_sourcelike.proofs.PlainPures.{Plain, plain_up, constant_plain, local_plain, combined_plain, is_lazy}
+use Rattle.mm_sourcelike.proofs.PlainPures.{Plain, plain_asserted, plain_up, constant_plain, local_plain, combined_plain, is_lazy}
 use Rattle.mm_sourcelike.proofs.Scoping.{none_is_not, same_some}
 use Rattle.mm_sourcelike.proofs.Starting.{numbers_are}
 
@@ -292,7 +292,7 @@ layer_plain (stmt.For (Some i) e (Some j) d) at w k c h = for_plain at (phrases_
 layer_plain stmt.Break at w k c h = tt
 layer_plain stmt.Continue at w k c h = tt
 layer_plain (stmt.Return v) at w k c h = return_plain at v w k.names k.next c h
-layer_plain (stmt.Assert e text) at w k c h = test_plain w k e h.0
+layer_plain (stmt.Assert e text) at w k c h = let t = test_plain w k e h.0 in (t.0, plain_asserted 410 210 _ t.1)
 layer_plain (stmt.Assume e) at w k c h = test_plain w k e h.0
 layer_plain stmt.Fence at w k c h = tt
 layer_plain (stmt.Lock x) at w k c h = tt

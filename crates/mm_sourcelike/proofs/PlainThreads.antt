@@ -1,5 +1,5 @@
 -- The instructions of a source's threads are small, have numbers without a sign, and divide in time.
-use Rattle.std.proofs.Common.{arith, ◌≡◌, ℕ, ◌+◌, ◌≤◌, [], ◌∷◌, All, sum_by, ap, sym, subst, Some, None}
+use Rattle.std.proofs.Common.{arith, ◌≡◌, ◌⊎◌, inl, inr, false, ℕ, ◌+◌, ◌≤◌, List, [], ◌∷◌, All, sum_by, ap, sym, subst, Some, None}
 use Rattle.std.specs.List.{AllByRecursion, flat_map, slice_get}
 use Rattle.std.proofs.lemmas.List.Elements.{All-from_recursion}
 use Rattle.std.proofs.lemmas.List.Sums.{sum_by-cons}
@@ -10,8 +10,9 @@ use Rattle.mm_goto.specs.declared.program.Instr.TheVariants as instr
 use Rattle.mm_goto.specs.declared.program.Target.{Target}
 use Rattle.mm_goto.specs.declared.program.Target.TheVariants as target
 use Rattle.mm_goto.specs.declared.program.Thread.{Thread}
-use Rattle.mm_goto.specs.Checks.{DividesInTime, late_parts, target_exprs, value_exprs}
-use Rattle.mm_goto.specs.Parts.{levels, nodes, numbers}
+use Rattle.mm_goto.specs.Checks.{DividesInTime, IsRangeCheck, Late, late_parts, target_exprs, value_exprs}
+use Rattle.mm_sourcelike.specs.Checks.{DividesAlone}
+use Rattle.mm_goto.specs.Parts.{divides, levels, nodes, numbers}
 use Rattle.mm_goto.specs.Sourcelike.{exprs_of, target_nodes}
 use Rattle.mm_tree.specs.declared.item.Tree.{Tree}
 use Rattle.mm_tree.specs.declared.side.Side.TheVariants.{Source}
@@ -22,12 +23,15 @@ use Rattle.mm_sourcelike.specs.Grammatical.{IsGrammatical, IsUnsigned}
 use Rattle.mm_sourcelike.proofs.Cells.{both_all}
 use Rattle.mm_sourcelike.proofs.EachThread.{each_thread, thread_each}
 use Rattle.mm_sourcelike.proofs.PlainExpressions.{PlainTarget, IsPlain, IsPlainBeside, PlainInstr, PlainFlow}
-use Rattle.mm_sourcelike.proofs.PlainPures.{IsTimely, plain_up}
+use Rattle.mm_sourcelike.proofs.PlainPures.{Asserted, IsAlone, plain_asserted, plain_up}
 use Rattle.mm_sourcelike.proofs.PlainStatements.{code_plain}
 
 -- ---- the expressions of an instruction
 
-module _ (R : Pure → Type 0) (each : (e : Pure) → IsPlain e → R e) where
+module _ (R : Pure → Type 0) (asserted : (e : Pure) → Asserted 410 210 e → R e) where
+  each : (e : Pure) → IsPlain e → R e
+  each e h = asserted e (plain_asserted 410 210 e h)
+
   target_part : (t : Target) → PlainTarget t → AllByRecursion R (flat_map target_exprs (t ∷ []))
   target_part (target.Cell c) h = tt
   target_part (target.Elem first len e) h = (each e (plain_up 200 410 200 210 e (omega arith) (omega arith) h), tt)
@@ -44,7 +48,7 @@ module _ (R : Pure → Type 0) (each : (e : Pure) → IsPlain e → R e) where
   parts_are (instr.Input l) h = tt
   parts_are (instr.Jump k) h = tt
   parts_are (instr.Branch e k) h = (each e h, tt)
-  parts_are (instr.Assert e n) h = (each e h, tt)
+  parts_are (instr.Assert e n) h = (asserted e h, tt)
   parts_are (instr.Assume e) h = (each e h, tt)
   parts_are instr.Fence h = tt
   parts_are (instr.Lock m) h = tt
@@ -93,6 +97,16 @@ is_small instr.AtomBegin h = small_by instr.AtomBegin (omega arith) tt
 is_small instr.AtomEnd h = small_by instr.AtomEnd (omega arith) tt
 is_small instr.End h = small_by instr.End (omega arith) tt
 
+-- ---- where it divides
+
+in_time : (e : Pure) (ls : List Late) → AllByRecursion (IsAlone e) ls → AllByRecursion (λ late. (divides late.part ≡ false) ⊎ IsRangeCheck late.whole) ls
+in_time e [] h = tt
+in_time e (l ∷ ls) h = (elim h.0 [ inl a ↦ inl a | inr b ↦ inr (subst IsRangeCheck (sym b.0) b.1) ], in_time e ls h.1)
+
+by_itself : (e : Pure) (ls : List Late) → AllByRecursion (IsAlone e) ls → AllByRecursion (λ late. (divides late.part ≡ false) ⊎ (late.whole ≡ e)) ls
+by_itself e [] h = tt
+by_itself e (l ∷ ls) h = (elim h.0 [ inl a ↦ inl a | inr b ↦ inr b.0 ], by_itself e ls h.1)
+
 -- ---- the whole
 
 module _ (tree : Tree) (g : IsGrammatical Source tree) (accepted : IsAccepted Source tree) (none : limit_passed Source tree ≡ None) where
@@ -117,7 +131,10 @@ module _ (tree : Tree) (g : IsGrammatical Source tree) (accepted : IsAccepted So
   unsigned_numbers t k thread i e f = all_are (λ d. All IsUnsigned (numbers d)) (λ d h. All-from_recursion IsUnsigned (numbers d) h.signs) i (plain_at t k thread i e f)
 
   pub divides_in_time : (t k : ℕ) (thread : Thread) (i : Instr) → slice_get (program_of Source tree).threads t ≡ Some thread → slice_get thread.code k ≡ Some i → All DividesInTime (exprs_of i)
-  divides_in_time t k thread i e f = all_are DividesInTime (λ d h. All-from_recursion IsTimely (late_parts d) h.timely) i (plain_at t k thread i e f)
+  divides_in_time t k thread i e f = all_are DividesInTime (λ d h. All-from_recursion _ (late_parts d) (in_time d (late_parts d) h.alone)) i (plain_at t k thread i e f)
+
+  pub checks_alone : (t k : ℕ) (thread : Thread) (i : Instr) → slice_get (program_of Source tree).threads t ≡ Some thread → slice_get thread.code k ≡ Some i → All DividesAlone (exprs_of i)
+  checks_alone t k thread i e f = all_are DividesAlone (λ d h. All-from_recursion _ (late_parts d) (by_itself d (late_parts d) h.alone)) i (plain_at t k thread i e f)
 
   pub few_nodes : (t k : ℕ) (thread : Thread) (i : Instr) → slice_get (program_of Source tree).threads t ≡ Some thread → slice_get thread.code k ≡ Some i → (target_nodes i ≤ 410) × All (λ e. target_nodes i + nodes e ≤ 410) (value_exprs i)
   few_nodes t k thread i e f = is_small i (plain_at t k thread i e f)

@@ -1,3 +1,4 @@
 pub mod Ints
 pub mod Shapes
 pub mod Grammatical
+pub mod Checks

@@ -20,6 +20,7 @@ ghost use Rattle.mm_names.specs.Programs.{IsAccepted};
 ghost use Rattle.mm_flow.specs.Programs.{limit_passed, program_of};
 ghost use Rattle.mm_grammar.specs.Meaning.{IsTreeOf};
 ghost use Rattle.mm_print.specs.Printable.{IsPrintableTree};
+ghost use Rattle.mm_sourcelike.specs.Checks.{ChecksStandAlone};
 ghost use Rattle.mm_sourcelike.specs.Grammatical.{IsGrammatical, IsUnsigned};
 ghost use Rattle.mm_sourcelike.specs.Ints.{AreInts};
 ghost use Rattle.mm_sourcelike.specs.Shapes.{IsScoped};
@@ -42,6 +43,11 @@ pub fn a_flattened_text_is_valid()
 /// What the text of a source that makes sense is flattened to within the limits is as the analyses of a source may take it.
 pub fn a_source_text_is_sourcelike()
     ensures { (text : List ℕ) (tree : Tree) → IsUtf8 text → length text < 2 ^ 32 → IsTreeOf Source text tree → IsAccepted Source tree → limit_passed Source tree ≡ None → IsSourcelike (program_of Source tree) }
+{}
+
+/// Where the goto program of a source text divides though it is not always reached, the expression is the check of an index.
+pub fn a_source_text_checks_alone()
+    ensures { (text : List ℕ) (tree : Tree) → IsUtf8 text → length text < 2 ^ 32 → IsTreeOf Source text tree → IsAccepted Source tree → limit_passed Source tree ≡ None → ChecksStandAlone (program_of Source tree) }
 {}
 
 /// What an accepted tree within the limits is flattened to is a valid program, where its numbers are ints and its
@@ -129,6 +135,11 @@ pub fn numbers_have_no_sign()
 /// What divides in an instruction of a flattened source is always reached.
 pub fn divisions_come_in_time()
     ensures { (tree : Tree) → IsGrammatical Source tree → IsAccepted Source tree → limit_passed Source tree ≡ None → (t k : ℕ) (thread : Thread) (i : Instr) → slice_get (program_of Source tree).threads t ≡ Some thread → slice_get thread.code k ≡ Some i → All DividesInTime (exprs_of i) }
+{}
+
+/// Where an instruction of a flattened source divides though it is not always reached, its expression is the check of an index.
+pub fn checks_stand_alone()
+    ensures { (tree : Tree) → IsGrammatical Source tree → IsAccepted Source tree → limit_passed Source tree ≡ None → ChecksStandAlone (program_of Source tree) }
 {}
 
 /// The instructions of a flattened source have few nodes.

@@ -1,0 +1,12 @@
+mod Accounts
+mod Bare
+mod Costs
+mod HelperCosts
+mod Printed
+mod Standing
+mod TemplateCosts
+mod ThreadCosts
+mod Weighing
+mod Weights
+mod Whole
+mod WordCosts
