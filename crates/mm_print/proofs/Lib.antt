@@ -5,15 +5,14 @@ mod ExpressionReads
 mod Heads
 mod ItemReads
 mod Limits
-pub mod Lines
 mod Lookup
 pub mod Mains
 mod Operands
 mod PartReads
-mod ReadBack
+pub mod ReadBack
 mod Reading
 mod Roomy
-mod Says
+pub mod Says
 mod Signs
 mod SmallItems
 mod SmallStatements

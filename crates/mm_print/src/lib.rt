@@ -8,9 +8,7 @@ pub mod laws;
 mod lists;
 mod parts;
 mod printed;
-mod small;
 mod statements;
 mod words;
 
 pub use printed::print;
-pub use small::print_small;

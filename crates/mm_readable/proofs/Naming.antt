@@ -1,7 +1,6 @@
 -- The names in a woven program are names of C, and no words of it.
-use Rattle.std.proofs.Common.{◌≡◌, ◌∙◌, ℕ, zero, suc, ◌+◌, ◌<◌, ◌/◌, ◌%◌, ◌==◌, cond, nat_lt, Bool, true, false, List, [], ◌∷◌, refl, ap, arith}
+use Rattle.std.proofs.Common.{◌≡◌, ◌∙◌, ℕ, zero, suc, ◌+◌, ◌<◌, nat_lt, Bool, true, false, List, [], ◌∷◌, refl, ap, arith}
 use Rattle.std.specs.Prelude.{codes}
-use Rattle.std.specs.Fmt.{decimal, digits, digits_onto, digit_glyph}
 use Rattle.std.specs.List.{list_all}
 use Rattle.std.specs.Str.{IsAscii}
 use Rattle.std.proofs.lemmas.Bool.{and_parts}
@@ -13,26 +12,9 @@ use Rattle.mm_parse_expr.specs.declared.symbol.Symbol.TheVariants as symbol
 use Rattle.mm_parse_expr.specs.Symbols.{word_symbol}
 use Rattle.mm_parse_expr.proofs.WordNames.{no_word}
 use Rattle.mm_print.specs.Printable.{IsPrintableName}
+use Rattle.mm_print.proofs.Says.{digits_all}
 use Rattle.mm_helpers.specs.Helpers as helper
 use Rattle.mm_templates.specs.Names.{local_name, label_name, handle_name, thread_name}
-
--- what holds of each digit holds of each character of a printed number
-glyph : (p : ℕ → Bool) → ((d : ℕ) → d < 10 → p (48 + d) ≡ true) → (d : ℕ) → d < 10 → p (digit_glyph false d) ≡ true
-glyph p k d h = let small : nat_lt d 10 ≡ true = grind (arith, nat_tests) in ap p (ap (λ b. cond b (48 + d) (87 + d)) small) ∙ k d h
-
-onto_all : (p : ℕ → Bool) → ((d : ℕ) → d < 10 → p (48 + d) ≡ true) → (k n : ℕ) (acc : List ℕ) → list_all p acc ≡ true → list_all p (digits_onto k 10 false n acc) ≡ true
-onto_all p f zero n acc h = h
-onto_all p f (suc k) n acc h =
-    let more : list_all p (digit_glyph false (n % 10) ∷ acc) ≡ true = rw (glyph p f (n % 10) (omega arith), h) refl in
-    by_test (n / 10 == 0) _ _ more (onto_all p f k (n / 10) (digit_glyph false (n % 10) ∷ acc) more)
-  where
-    by_test : (b : Bool) (xs ys : List ℕ) → list_all p xs ≡ true → list_all p ys ≡ true → list_all p (cond b xs ys) ≡ true
-    by_test true xs ys g e = g
-    by_test false xs ys g e = e
-
-pub digits_all : (p : ℕ → Bool) → ((d : ℕ) → d < 10 → p (48 + d) ≡ true) → (n : ℕ) → list_all p (decimal n) ≡ true
-unfolding digits
-digits_all p f n = onto_all p f 64 n [] refl
 
 -- a text of ASCII
 all_ascii : (x : List ℕ) → list_all is_ascii x ≡ true → IsAscii x

@@ -41,7 +41,8 @@ use Rattle.mm_templates.specs.Instructions as template
 use Rattle.mm_templates.specs.Names.{handle_name, label_name, local_name, thread_name}
 use Rattle.mm_print.specs.Printable.{IsPrintableName, IsPrintableText}
 use Rattle.mm_readable.proofs.Expressions.{IsNatural, IsNear, expr_printed, left, right, typed_bound}
-use Rattle.mm_readable.proofs.Naming.{declarable, digits_all, empty_named, flush_named, get_named, handle_named, input_named, label_named, local_named, mem_named, put_named, set_named, thread_named}
+use Rattle.mm_print.proofs.Says.{digits_all}
+use Rattle.mm_readable.proofs.Naming.{declarable, empty_named, flush_named, get_named, handle_named, input_named, label_named, local_named, mem_named, put_named, set_named, thread_named}
 use Rattle.mm_readable.proofs.Reading.{ExprReads, StmtReads, assert_reads, assign_call_reads, assign_elem_reads, assign_reads, assume_reads, bare_call, begin_reads, bin_reads, branch_reads, call_reads, call_with, elem_reads, end_reads, fence_reads, further, go_to_reads, join_reads, label_reads, lock_reads, more_arguments, no_body, num_reads, one_argument, return_reads, skip_reads, start_reads, un_reads, unlock_reads, var_reads, when_within, wider, widened}
 
 -- ---- what is put together

@@ -2,4 +2,3 @@ pub mod Validity
 pub mod SmallInTurn
 pub mod SmallFlat
 pub mod SmallSourcelike
-pub mod Deciding

@@ -1,10 +1,5 @@
-//! Small programs: main alone, with global ints that are assigned and asserted. From their trees to their goto programs.
+//! Small programs: main alone, with global ints that are assigned and asserted. Laws: what their trees are flattened to.
 #![tactic(auto)]
 
-mod flatten;
-mod limits;
-mod program;
-mod shape;
+pub mod laws;
 mod tree;
-
-pub use program::{SmallFault, small};
