@@ -16,7 +16,7 @@ use Rattle.mm_print.specs.Woven.{woven as small_woven}
 use Rattle.mm_print.specs.Meaning.{IsProgramOf}
 use Rattle.mm_alone.proofs.Planned.{plan_printed}
 use Rattle.mm_run.proofs.FromSmall.{listing_small}
-use Rattle.mm_print.proofs.Whole.{accepted, woven_text}
+use Rattle.mm_print.proofs.Whole.{woven_text}
 use Rattle.mm_run.specs.Answer.{FailsAsBuffered, IsAlike, IsOfSmall, IsWoven}
 use Rattle.mm_run.proofs.Weaving.{woven_alike}
 
@@ -54,12 +54,9 @@ module _ (p : Listing) (o : IsOfSmall p) (m : Model) (bound : Bounding) where
     back : Reaches Sc (small_woven p) n → Reaches Sc (without_places q) n
     back r = subst (λ (o : Listing). Reaches Sc o n) (sym same) r
 
--- the text of a small program's woven program is printed line by line, and fails as the program does with store buffers
+-- the text of a small program's woven program fails as the program does with store buffers
 pub is_alike : (p : Listing) (m : Model) (bound : Bounding) (out : List ℕ) → IsValid p → 1 ≤ bound → IsWoven p m bound out → IsOfSmall p → IsAlike p m bound out
 is_alike p m bound out v b w o =
     let small = is_small_listing p o m bound in
     let text : out ≡ small_text p m bound = w.text ∙ plan_printed p m bound w.shape w.head small w.plan in
-    record {
-      printed = subst (λ text. (q : Listing) × IsProgramOf Output text q) (sym text) (accepted p m bound small);
-      alike = λ q read. printed_alike p o m bound q v b (subst (λ text. IsProgramOf Output text q) text read);
-    }
+    λ q read. printed_alike p o m bound q v b (subst (λ text. IsProgramOf Output text q) text read)

@@ -7,7 +7,7 @@ use Rattle.std.proofs.lemmas.List.{length-drop, length-map, length-take-le, take
 use Rattle.std.proofs.lemmas.Str.{IsUtf8-from_is_utf8, is_utf8-from_IsUtf8, IsUtf8-nil}
 use Rattle.mm_goto.specs.declared.ident.At.{At}
 use Rattle.mm_goto.specs.declared.model.Model.{Model}
-use Rattle.mm_goto.specs.Bounds.{Bounding}
+use Rattle.mm_goto.specs.Bounds.{Bounding, IsBound}
 use Rattle.mm_goto.specs.Listing.{Listing}
 use Rattle.mm_goto.specs.Place.{place_after, start}
 use Rattle.mm_goto.specs.Sites.{sites}
@@ -54,6 +54,9 @@ use Rattle.mm_grammar.specs.Meaning.{IsTreeOf}
 use Rattle.mm_print.specs.Items.{printed_text}
 use Rattle.mm_instr.specs.Woven.{woven}
 use Rattle.mm_planned.proofs.Existing.{a_plan}
+use Rattle.mm_graph.specs.Graphs.{IsSmall}
+use Rattle.mm_run.specs.reading.Sound.{IsOfSource}
+use Rattle.mm_run.proofs.ReadAgain.{WovenIsAccepted, read_again}
 use Rattle.mm_run.proofs.Sound.{valid_program}
 use Rattle.mm_run.specs.declared.command.Settings.{Settings}
 use Rattle.mm_run.specs.declared.command.Settings.TheVariants.{Instrument, Cycles, ReplaySc, Replay}
@@ -314,22 +317,24 @@ module _ (r : Rules) (p : Listing) where
 abbrev IsAnswered : (Status → List ℕ → Type 0) → Type 0
 IsAnswered Answers = (status : Status) × (out : List ℕ) × Answers status out
 
--- a valid program is too large, or has a woven program
-an_answer_of_instrument : (m : Model) (bound : Bounding) → 1 ≤ bound → (p : Listing) → IsValid p → IsAnswered (PrintsWoven m bound p)
-an_answer_of_instrument m bound b p valid = ⊎_elim
+-- the program of a source is too large, or has a woven program
+an_answer_of_instrument : WovenIsAccepted → (m : Model) (bound : Bounding) → IsBound bound → (p : Listing) → IsOfSource p → IsAnswered (PrintsWoven m bound p)
+an_answer_of_instrument law m bound b p source = ⊎_elim
     (λ l. (_, _, PrintsWoven.too_large (IsTooLargeFor.too_many_sites l)))
     (λ few. ⊎_elim
     (λ l. (_, _, PrintsWoven.too_large (IsTooLargeFor.too_many_cells (few, l))))
     (λ small.
+    let valid : IsValid p = valid_program Source source.text p source.utf8 source.short source.read in
+    let here : IsSmall p = record { sites = few; cells = small } in
     let made = a_plan p m bound valid in
     let w : IsWoven p m bound (printed_text (woven p made.0) made.1) = record { shape = made.0; head = made.1; plan = made.2; text = refl } in
-    (Done, printed_text (woven p made.0) made.1, PrintsWoven.done (record { sites = few; cells = small }) w (is_alike p m bound _ valid b w)))
+    (Done, printed_text (woven p made.0) made.1, PrintsWoven.done here w (read_again law p m bound _ source here b w) (is_alike p m bound _ valid b.0 w)))
     (cases_lt 256 (length p.cells)))
     (cases_lt 1024 (length (sites p)))
 
-woven_answers : (m : Model) (bound : Bounding) → 1 ≤ bound → (input : List ℕ) → IsUtf8 input → length input < 2 ^ 32 → IsAnswered (AnswersProgram Source (PrintsWoven m bound) input)
-woven_answers m bound b input utf8 short = ⊎_elim
-    (λ h. let a = an_answer_of_instrument m bound b h.0 (valid_program Source input h.0 utf8 short h.1) in (a.0, a.1, AnswersProgram.program h.0 h.1 a.2))
+woven_answers : WovenIsAccepted → (m : Model) (bound : Bounding) → IsBound bound → (input : List ℕ) → IsUtf8 input → length input < 2 ^ 32 → IsAnswered (AnswersProgram Source (PrintsWoven m bound) input)
+woven_answers law m bound b input utf8 short = ⊎_elim
+    (λ h. let a = an_answer_of_instrument law m bound b h.0 (record { text = input; utf8 = utf8; short = short; read = h.1 }) in (a.0, a.1, AnswersProgram.program h.0 h.1 a.2))
     (λ h. (Refused, refusal_line h.0 h.1, AnswersProgram.refused (Refusing.refused h.0 h.1 h.2)))
     (of_any Source input (known Source input))
 
@@ -361,14 +366,14 @@ report_answers m bound input = ⊎_elim
     (λ h. (Refused, refusal_line h.0 h.1, AnswersProgram.refused (Refusing.refused h.0 h.1 h.2)))
     (of_any Source input (known Source input))
 
-text_answers : (s : Settings) → IsThere s → (input : List ℕ) → IsUtf8 input → length input < 2 ^ 32 → IsAnswered (AnswersText s input)
-text_answers (Instrument m bound) t input utf8 short = woven_answers m bound t.0 input utf8 short
-text_answers (Cycles m bound) t input utf8 short = report_answers m bound input
-text_answers ReplaySc t input utf8 short = parts_answer Sc input
-text_answers (Replay m bound) t input utf8 short = parts_answer (Buffered m bound) input
+text_answers : WovenIsAccepted → (s : Settings) → IsThere s → (input : List ℕ) → IsUtf8 input → length input < 2 ^ 32 → IsAnswered (AnswersText s input)
+text_answers law (Instrument m bound) t input utf8 short = woven_answers law m bound t input utf8 short
+text_answers law (Cycles m bound) t input utf8 short = report_answers m bound input
+text_answers law ReplaySc t input utf8 short = parts_answer Sc input
+text_answers law (Replay m bound) t input utf8 short = parts_answer (Buffered m bound) input
 
-pub an_answer : (s : Settings) → IsThere s → (input : List ℕ) → length input ≤ 16777216 → IsAnswered (AnswersWhole s input)
-an_answer s t input short = ⊎_elim
-    (λ u. let a = text_answers s t input u (omega (arith, short)) in (a.0, a.1, AnswersWhole.text u a.2))
+pub an_answer : WovenIsAccepted → (s : Settings) → IsThere s → (input : List ℕ) → length input ≤ 16777216 → IsAnswered (AnswersWhole s input)
+an_answer law s t input short = ⊎_elim
+    (λ u. let a = text_answers law s t input u (omega (arith, short)) in (a.0, a.1, AnswersWhole.text u a.2))
     (λ n. (Refused, refusal_line n.0 (codes "not UTF-8"), AnswersWhole.no_text n.0 n.1))
     (text_or_not input)

@@ -43,7 +43,7 @@ of_too_large p status out (IsTooLargeFor.too_many_cells h) = tt
 
 of_woven : (m : Model) (bound : Bounding) (p : Listing) (status : Status) (out : List ℕ) → PrintsWoven m bound p status out → IsOfInput status
 of_woven m bound p status out (PrintsWoven.too_large h) = of_too_large p status out h
-of_woven m bound p status out (PrintsWoven.done s w u) = tt
+of_woven m bound p status out (PrintsWoven.done s w r u) = tt
 
 of_instrument : (m : Model) (bound : Bounding) (input : List ℕ) (status : Status) (out : List ℕ) → AnswersProgram Source (PrintsWoven m bound) input status out → IsOfInput status
 of_instrument m bound input status out (AnswersProgram.refused h) = of_refusal Source input status out h

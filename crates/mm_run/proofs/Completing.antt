@@ -107,7 +107,7 @@ instrumented m bound input p h s status out (AnswersProgram.program q k w) = pri
   where
     printed : (q : Listing) (status : Status) (out : List ℕ) → PrintsWoven m bound q status out → IsSmall q → IsDoneOrKept status
     printed q status out (PrintsWoven.too_large n) s = absurd (not_too_large q s status out n)
-    printed q status out (PrintsWoven.done i w u) s = tt
+    printed q status out (PrintsWoven.done i w r u) s = tt
 
 analysed : (m : Model) (bound : Bounding) (input : List ℕ) (p : Listing) → IsProgramText Source input p → IsSmall p → (status : Status) (out : List ℕ) → AnswersProgram Source (ReportsCycles m bound) input status out → IsDoneOrKept status
 analysed m bound input p h s status out (AnswersProgram.refused r) = absurd (not_refused Source input p h status out r)

@@ -11,6 +11,7 @@ pub mod Answered
 pub mod Answering
 pub mod Completing
 pub mod Parting
+pub mod ReadAgain
 pub mod Reading
 pub mod Replaying
 pub mod Sound

@@ -43,9 +43,9 @@ one_replay r p schedule = one_outcome r p schedule TellsVerdict one_verdict
 -- a program has one woven program
 one_woven : (m : Model) (bound : Bounding) (p : Listing) (a b : Status) (out text : List ℕ) → PrintsWoven m bound p a out → PrintsWoven m bound p b text → (a ≡ b) × (out ≡ text)
 one_woven m bound p a b out text (PrintsWoven.too_large h) (PrintsWoven.too_large k) = one_too_large p a b out text h k
-one_woven m bound p a b out text (PrintsWoven.too_large h) (PrintsWoven.done s w u) = absurd (not_too_large p s a out h)
-one_woven m bound p a b out text (PrintsWoven.done s w u) (PrintsWoven.too_large k) = absurd (not_too_large p s b text k)
-one_woven m bound p a b out text (PrintsWoven.done s v u) (PrintsWoven.done t w o) =
+one_woven m bound p a b out text (PrintsWoven.too_large h) (PrintsWoven.done s w r u) = absurd (not_too_large p s a out h)
+one_woven m bound p a b out text (PrintsWoven.done s w r u) (PrintsWoven.too_large k) = absurd (not_too_large p s b text k)
+one_woven m bound p a b out text (PrintsWoven.done s v r u) (PrintsWoven.done t w z o) =
     let one = one_plan p m bound v.shape w.shape v.head w.head v.plan w.plan in
     (refl, v.text ∙ ap (λ shape. printed_text (woven p shape) v.head) one.0 ∙ ap (λ head. printed_text (woven p w.shape) head) one.1 ∙ sym w.text)
 

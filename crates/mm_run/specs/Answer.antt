@@ -66,11 +66,13 @@ pub record IsOfSmall (p : Listing) : Type 0 where
 abbrev pub FailsAsBuffered : Listing → Listing → Model → Bounding → Type 0
 FailsAsBuffered q p m bound = (n : ℕ) → Reaches Sc q n ↔ Reaches (Buffered m bound) p n
 
--- The output is a program of the same grammar, and any goto program that it has fails under sequential consistency as p does with
--- store buffers of this bound under the model.
-pub record IsAlike (p : Listing) (m : Model) (bound : Bounding) (out : List ℕ) : Type 0 where
-  pub printed : (q : Listing) × IsProgramOf Output out q
-  pub alike : (q : Listing) → IsProgramOf Output out q → FailsAsBuffered q p m bound
+-- The output is a program again: by the same grammar, and by the rules of names and types and the limits for woven programs.
+abbrev pub IsReadAgain : List ℕ → Type 0
+IsReadAgain out = (q : Listing) × IsProgramText Output out q
+
+-- any goto program that the output has fails under sequential consistency as p does with store buffers of this bound under the model
+abbrev pub IsAlike : Listing → Model → Bounding → List ℕ → Type 0
+IsAlike p m bound out = (q : Listing) → IsProgramOf Output out q → FailsAsBuffered q p m bound
 
 -- the status and the output of `instrument` for a goto program; that the output fails alike is said of small programs
 pub data PrintsWoven (m : Model) (bound : Bounding) (p : Listing) : Status → List ℕ → Type 0 where
@@ -80,6 +82,7 @@ pub data PrintsWoven (m : Model) (bound : Bounding) (p : Listing) : Status → L
   done : {out : List ℕ}
       → IsSmall p
       → IsWoven p m bound out
+      → IsReadAgain out
       → (IsOfSmall p → IsAlike p m bound out)
       → PrintsWoven m bound p Done out
 

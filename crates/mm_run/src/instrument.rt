@@ -3,10 +3,12 @@ ghost use Rattle.mm_goto.specs.Valid.{IsValid};
 ghost use Rattle.mm_graph.specs.Graphs.{IsGraphOf};
 ghost use Rattle.mm_tree.specs.declared.side.Side.TheVariants.{Source};
 ghost use Rattle.mm_run.specs.Answer.{AnswersProgram, IsWoven, PrintsWoven};
+ghost use Rattle.mm_run.specs.reading.Sound.{IsOfSource};
 
 use crate::answer::{Answer, answer_fault};
 use crate::event_graph::{event_graph, too_large};
 use crate::input::MAX_INPUT;
+use crate::laws::a_woven_text_is_accepted;
 use crate::program::any_program;
 use crate::status::Status;
 use mm_delay::plan;
@@ -42,11 +44,13 @@ fn woven(
     bound: Bound,
 ) -> Result<Answer, NoMemory>
     requires graph { IsGraphOf program.now graph.now }
+    requires source { IsOfSource program.now }
     ensures { IfOk result (λ answer. PrintsWoven model bound program.now answer.status (string_bytes answer.output)) }
 {
     // A program is valid, and a bound is 1 at least: each thread may have a pending store.
     program.threads();
     bound.get();
+    a_woven_text_is_accepted();
     Ok(Answer {
         status: Status::Done,
         output: weave(alloc, program, graph, model, bound)?,
@@ -60,6 +64,7 @@ fn weave_program(
     model: Model,
     bound: Bound,
 ) -> Result<Answer, NoMemory>
+    requires { IsOfSource program.now }
     ensures { IfOk result (λ answer. PrintsWoven model bound program.now answer.status (string_bytes answer.output)) }
 {
     match event_graph(alloc, program) {
