@@ -10,3 +10,4 @@ pub mod Pointers
 pub mod Pointed
 pub mod Moving
 pub mod Naming
+pub mod Guarded

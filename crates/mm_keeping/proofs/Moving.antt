@@ -24,7 +24,7 @@ use Rattle.mm_sched.specs.declared.entry.Act.{Act}
 use Rattle.mm_sched.specs.declared.entry.Act.TheVariants.{Assigns, Fails, Ends, Loads, Pushes, Puts, Updates, Misses}
 use Rattle.mm_sched.specs.State.{Frame, State, Pending, idle, initial, frame_of, pending_of, at_cell, at_start, all_at_start}
 use Rattle.mm_sched.specs.Buffer.{is_to, part, without}
-use Rattle.mm_sched.specs.Event.{pointee, framed, acted, flushed}
+use Rattle.mm_sched.specs.Event.{framed, acted, flushed}
 use Rattle.mm_sched.proofs.Quiet.{no-pending}
 use Rattle.mm_sched.proofs.Steps.{if-at}
 use Rattle.mm_sched.proofs.Within.{All-get}
@@ -212,7 +212,7 @@ module _ (p : Listing) (source : IsSourcelike p) where
           let valid : IsCellIn p.cells x = if-at (IsCellIn p.cells) (slice_get p.cells c) x e (All-get (IsCellIn p.cells) p.cells c source.valid.each_cell) in
           let is : IsSourceCell p x = if-at (IsSourceCell p) (slice_get p.cells c) x e (All-get (IsSourceCell p) p.cells c source.cells) in
           subst (Points p (cell c)) (sym (mapped p.cells c x e))
-          (some_then (λ d. MayName p (expr 0 x.init) d × IsIntCell p d) (λ d. MayName p (cell c) d × IsIntCell p d) (pointee (value_of x.init []) (length p.cells)) (start_points p source.valid.cells x.init valid.kind (subst (IsOf (λ l. false) x.init) h is.typed) valid.rows is.ints) (λ d q. (start x e q.0, q.1)))
+          (some_then (λ d. MayName p (expr 0 x.init) d × IsIntCell p d) (λ d. MayName p (cell c) d × IsIntCell p d) (value_of x.init []) (length p.cells) (start_points p source.valid.cells x.init valid.kind (subst (IsOf (λ l. false) x.init) h is.typed) valid.rows is.ints) (λ d q. (start x e q.0, q.1)))
 
   initial_pending : (t : ℕ) → All (λ q. HoldsPointer p q.0 → Points p (cell q.0) q.1) (pending_of (initial p) t)
   unfolding initial
@@ -220,7 +220,7 @@ module _ (p : Listing) (source : IsSourcelike p) where
 
   pub initial_pointed : Pointed p source (initial p)
   initial_pointed = record {
-    locals = λ t l h. subst (Points p (local t l)) (sym (initial_locals t l)) tt;
+    locals = λ t l h. subst (Points p (local t l)) (sym (initial_locals t l)) refl;
     memory = initial_memory;
     pending = initial_pending;
     walked = λ t. subst (λ k. Walked (code_of p t) k (frame_of (initial p) t).locals) (sym (start_place t)) (walked_start (code_of p t) (frame_of (initial p) t).locals);

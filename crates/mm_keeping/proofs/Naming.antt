@@ -126,6 +126,10 @@ module _ (m : Model) (bound : Bounding) (p : Listing) (source : IsSourcelike p) 
   kept zero l = inl (initial_pointed p source)
   kept (suc n) l = kept_next n (omega (arith, l)) (kept n (omega (arith, l)))
 
+  -- while nothing has failed, the pointers are sound
+  pub sound_at : (n : ℕ) → n ≤ length vs → (at_step n).verdict ≡ None → Pointed p source (at_step n)
+  sound_at n l e = ⊎_elim (λ h. h) (λ q. let z : None ≡ Some q.0 = sym e ∙ q.1 in absurd (cc)) (kept n l)
+
   -- an executed access is to a cell that it names
   pub names : (k : ℕ) (s : Spot) (x : Executes p vs k s) (c : ℕ) → touched x.act ≡ Some c → Names p s c
   names k s x c e =

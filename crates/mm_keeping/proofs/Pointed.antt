@@ -27,7 +27,7 @@ use Rattle.mm_sched.specs.declared.entry.Act.TheVariants.{Goes, Assigns, Fails, 
 use Rattle.mm_sched.specs.Guarded.{◌>>=◌}
 use Rattle.mm_sched.specs.State.{Frame, State, Pending, frame_of, pending_of, at_cell}
 use Rattle.mm_sched.specs.Buffer.{is_empty, is_to, part, seen, pends}
-use Rattle.mm_sched.specs.Event.{pointee, cell_of, stored, locked, unlocked, begun, joined, is_same, act, input, is_int}
+use Rattle.mm_sched.specs.Event.{cell_of, stored, locked, unlocked, begun, joined, is_same, act, input, is_int}
 use Rattle.mm_sched.proofs.Steps.{bind-there, guarded-if, locked-if, unlocked-if, begun-if, joined-if}
 use Rattle.mm_keeping.proofs.Values.{IsIntCell, Points, Holds, some_then}
 use Rattle.mm_keeping.proofs.Guards.{Walked}
@@ -119,7 +119,7 @@ module _ (p : Listing) (source : IsSourcelike p) where
     loaded k l (target.Cell d) at typed c e =
         let same : d ≡ c = cc in
         let holds : HoldsPointer p c = subst (HoldsPointer p) same typed in
-        some_then (λ x. MayName p (cell c) x × IsIntCell p x) (λ x. MayName p (local t l) x × IsIntCell p x) (pointee (seen s t c) (length p.cells)) (seen_points s sound t c holds) (λ x q. (load k (target.Cell d) c at.here (subst (MayName p (place t (target.Cell d))) same itself) holds q.0, q.1))
+        some_then (λ x. MayName p (cell c) x × IsIntCell p x) (λ x. MayName p (local t l) x × IsIntCell p x) (seen s t c) (length p.cells) (seen_points s sound t c holds) (λ x q. (load k (target.Cell d) c at.here (subst (MayName p (place t (target.Cell d))) same itself) holds q.0, q.1))
     loaded k l (target.Elem first len index) at typed c e = absurd (true≢false typed.0)
     loaded k l (target.Deref x) at typed c e = absurd (true≢false typed.0)
 
@@ -130,7 +130,7 @@ module _ (p : Listing) (source : IsSourcelike p) where
         go false typed kind = absurd ((target_names p source t f.locals known k (Store to e) at checks to false (only to) typed at.within.0 c (sized to c is)).1 refl holds)
         go true typed kind =
             let named = target_names p source t f.locals known k (Store to e) at checks to true (only to) typed at.within.0 c (sized to c is) in
-            some_then (λ x. MayName p (expr t e) x × IsIntCell p x) (λ x. MayName p (cell c) x × IsIntCell p x) (pointee (value_of e f.locals) (length p.cells)) (expr_points p source t f.locals known k (Store to e) at checks e (first e []) kind at.within.1)
+            some_then (λ x. MayName p (expr t e) x × IsIntCell p x) (λ x. MayName p (cell c) x × IsIntCell p x) (value_of e f.locals) (length p.cells) (expr_points p source t f.locals known k (Store to e) at checks e (first e []) kind at.within.1)
             (λ x q. (store t k to e at.here named.0 holds q.0, q.1))
 
     int_add : (k l : ℕ) (to : Target) (e : Pure) (at : Standing p source t k (Add l to e)) → All (Holds f.locals) (wants (Add l to e)) → (c : ℕ) → cell_of (length s.memory) f.locals to ≡ Some c → IsIntCell p c
@@ -144,7 +144,7 @@ module _ (p : Listing) (source : IsSourcelike p) where
 
     sets : (k l : ℕ) (e : Pure) (at : Standing p source t k (Set l e)) → All (Holds f.locals) (wants (Set l e)) → pointers p source t l ≡ true → Points p (local t l) (value_of e f.locals)
     sets k l e at checks h =
-        some_then (λ x. MayName p (expr t e) x × IsIntCell p x) (λ x. MayName p (local t l) x × IsIntCell p x) (pointee (value_of e f.locals) (length p.cells)) (expr_points p source t f.locals known k (Set l e) at checks e (first e []) (subst (IsOf (pointers p source t) e) h at.typed) at.within.1)
+        some_then (λ x. MayName p (expr t e) x × IsIntCell p x) (λ x. MayName p (local t l) x × IsIntCell p x) (value_of e f.locals) (length p.cells) (expr_points p source t f.locals known k (Set l e) at checks e (first e []) (subst (IsOf (pointers p source t) e) h at.typed) at.within.1)
         (λ x q. (set k e at.here q.0, q.1))
 
     pends_makes : (i : Instr) (b : Bool) (c : ℕ) (v : ℤ) → Made i (Pushes c v) → IfSome (stored (if b then Delayed else NotEnabled) c v) (Made i)

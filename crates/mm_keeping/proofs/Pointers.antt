@@ -20,10 +20,10 @@ use Rattle.mm_goto.specs.PointsTo.{aims_of, MayName, local, expr, place, itself,
 use Rattle.mm_goto.specs.Sourcelike.{IsSourcelike, IsSourceInstr, IsWholeArray, exprs_of, target_rows, wants}
 use Rattle.mm_goto.specs.Valid.{IsNextElement, IsRow, IsPureIn, IsTargetIn, IsInstrIn, IsThreadIn, code_of}
 use Rattle.mm_goto.specs.Value.{value_of}
-use Rattle.mm_sched.specs.Event.{element, pointee, cell_of}
+use Rattle.mm_sched.specs.Event.{element, cell_of}
 use Rattle.mm_sched.proofs.Steps.{if-at}
 use Rattle.mm_sched.proofs.Within.{All-get}
-use Rattle.mm_keeping.proofs.Values.{all_left, all_right, numbered, element_named, IsIntCell, int_cell, Points, Holds, value_points}
+use Rattle.mm_keeping.proofs.Values.{all_left, all_right, numbered, element_named, IsIntCell, int_cell, Points, points_to, Holds, value_points}
 use Rattle.mm_keeping.proofs.Guards.{all_flat, target_wanted, value_wanted}
 
 -- ---- the instruction at a place
@@ -120,12 +120,12 @@ module _ (p : Listing) (source : IsSourcelike p) where
           (All-contains (NamesInts p) (value_exprs i) e (all_right (NamesInts p) (flat_map target_exprs (targets i)) (value_exprs i) at.is.ints) c)
           (All-contains (λ e. All (Holds locals) (checks_of e)) (value_exprs i) e (value_wanted i locals checks) c)
 
-      abbrev Sure : Target → Type 0
+      abbrev pub Sure : Target → Type 0
       Sure (target.Cell c) = Unit {0}
       Sure (target.Elem first len index) = IsRow p.cells (record { first = first; len = len }) × IsWholeArray p (record { first = first; len = len })
       Sure (target.Deref e) = Points p (expr t e) (value_of e locals)
 
-      sure : (to : Target) (b : Bool) → Contains (targets i) to → IsTargetOf p (pointers t) to b → IsTargetIn p at.thread to → Sure to
+      pub sure : (to : Target) (b : Bool) → Contains (targets i) to → IsTargetOf p (pointers t) to b → IsTargetIn p at.thread to → Sure to
       sure (target.Cell c) b h typed within = tt
       sure (target.Elem first len index) b h typed within =
           (within.0, All-head (IsWholeArray p) (record { first = first; len = len }) [] (all_flat (IsWholeArray p) target_rows (targets i) (target.Elem first len index) (all_left (IsWholeArray p) (flat_map target_rows (targets i)) (flat_map arrays_of (exprs_of i)) at.is.arrays) h))
@@ -141,7 +141,7 @@ module _ (p : Listing) (source : IsSourcelike p) where
           let q = elemented (value_of index locals) first len c e in
           (subst (MayName p (place t (target.Elem first len index))) q.3 (by_element (element_named first len q.0 (aims_of index).constant q.2 (λ z h. sym q.1 ∙ numbered index z h locals))), λ i. subst (IsIntCell p) q.3 (array_ints (record { first = first; len = len }) s.0 s.1 q.0 q.2))
       by_sure (target.Deref e) b s typed c h =
-          let q = if-at (λ c. MayName p (expr t e) c × IsIntCell p c) (pointee (value_of e locals) (length p.cells)) c h s in
+          let q = points_to (λ c. MayName p (expr t e) c × IsIntCell p c) (value_of e locals) (length p.cells) c h s in
           (behind q.0, λ i. q.1)
 
       -- the cell of a target is one that it may name; where the target is of ints, it holds one
@@ -152,10 +152,10 @@ module _ (p : Listing) (source : IsSourcelike p) where
       one_target x y (zero, l, e) = e
       one_target x y (suc k, l, e) = absurd (omega (arith, l))
 
-      abbrev Fitting : Target → Type 0
+      abbrev pub Fitting : Target → Type 0
       Fitting to = (b : Bool) × IsTargetOf p (pointers t) to b × IsTargetIn p at.thread to
 
-    fitting : (k : ℕ) (i : Instr) (at : Standing t k i) (checks : All (Holds locals) (wants i)) (to : Target) → Contains (targets i) to → Fitting k i at checks to
+    pub fitting : (k : ℕ) (i : Instr) (at : Standing t k i) (checks : All (Holds locals) (wants i)) (to : Target) → Contains (targets i) to → Fitting k i at checks to
     fitting k (Load l x) at checks to c = subst (Fitting k (Load l x) at checks) (one_target k (Load l x) at checks x to c) (pointers t l, at.typed, at.within.1)
     fitting k (Store x e) at checks to c = subst (Fitting k (Store x e) at checks) (one_target k (Store x e) at checks x to c) (at.typed.0, at.typed.1, at.within.0)
     fitting k (Add l x e) at checks to c = subst (Fitting k (Add l x e) at checks) (one_target k (Add l x e) at checks x to c) (false, at.typed.1, at.within.1)

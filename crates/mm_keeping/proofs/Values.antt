@@ -1,5 +1,5 @@
 -- What the value of an expression is the address of.
-use Rattle.std.proofs.Common.{arith, ◌≡◌, ℕ, zero, suc, ◌+◌, ◌<◌, ◌≤◌, ◌^◌, ℤ, pos, negsuc, ◌⊎◌, inl, inr, List, [], ◌∷◌, ◌++◌, length, Option, Some, None, refl, Bool, true, false, not, nat_lt, sym, ◌∙◌, ap, subst, slice_get, slice_index_or, slice_set, if◌then◌else◌, IfSome, ltb-true, FitsSigned}
+use Rattle.std.proofs.Common.{arith, ◌≡◌, ℕ, zero, suc, ◌+◌, ◌<◌, ◌≤◌, ◌^◌, ℤ, pos, negsuc, ◌⊎◌, inl, inr, List, [], ◌∷◌, ◌++◌, length, Option, Some, None, refl, Bool, true, false, not, nat_lt, sym, ◌∙◌, ap, subst, slice_get, slice_index_or, slice_set, if◌then◌else◌, ltb-true, lt-ltb, FitsSigned}
 use Rattle.std.specs.Prelude.{◌&&◌, ◌||◌, ◌==◌, int_lt, IsTrue, IsSomeAnd}
 use Rattle.std.specs.List.{All, Contains}
 use Rattle.std.specs.Int.{w32, int_wrapping_add, cast_signed}
@@ -242,13 +242,24 @@ int_cell p c = go (slice_get p.cells c)
     go None h k = absurd h
     go (Some x) h k = false≢true (sym h ∙ k)
 
--- where the value is the address of a cell, that is one that the holder may name, and it holds an int
-abbrev pub Points : Listing → Holder → ℤ → Type 0
-Points p h z = IfSome (pointee z (length p.cells)) (λ c. MayName p h c × IsIntCell p c)
+-- this holds of the cell, or the value is null
+abbrev pub OrNull : ℤ → (ℕ → Type 0) → Option ℕ → Type 0
+OrNull z P None = is_zero z ≡ true
+OrNull z P (Some c) = P c
 
-pub some_then : {A : Type 0} (P Q : A → Type 0) (o : Option A) → IfSome o P → ((a : A) → P a → Q a) → IfSome o Q
-some_then P Q None h f = tt
-some_then P Q (Some a) h f = f a h
+-- the value is null or the address of a cell, which is one that the holder may name, and it holds an int
+abbrev pub Points : Listing → Holder → ℤ → Type 0
+Points p h z = OrNull z (λ c. MayName p h c × IsIntCell p c) (pointee z (length p.cells))
+
+pub some_then : (P Q : ℕ → Type 0) (z : ℤ) (n : ℕ) → OrNull z P (pointee z n) → ((c : ℕ) → P c → Q c) → OrNull z Q (pointee z n)
+some_then P Q z n h f = by (pointee z n) h
+  where
+    by : (o : Option ℕ) → OrNull z P o → OrNull z Q o
+    by None h = h
+    by (Some c) h = f c h
+
+pub points_to : (P : ℕ → Type 0) (z : ℤ) (n c : ℕ) → pointee z n ≡ Some c → OrNull z P (pointee z n) → P c
+points_to P z n c e h = subst (OrNull z P) e h
 
 -- the check holds
 abbrev pub Holds : List ℤ → Pure → Type 0
@@ -264,22 +275,18 @@ no_binary _ x y = refl
 
 module _ (p : Listing) (small : length p.cells ≤ MAX_CELLS) (t : ℕ) (locals : List ℤ) where
   abbrev Good : Aims → ℤ → Type 0
-  Good a z = IfSome (pointee z (length p.cells)) (λ d. Aimed p t a d × IsIntCell p d)
+  Good a z = OrNull z (λ d. Aimed p t a d × IsIntCell p d) (pointee z (length p.cells))
 
   good_at : (x : pure.Pure-F Pure) (a : Aims) (z : ℤ) → aims_of (roll-Pure x) ≡ a → value_of (roll-Pure x) locals ≡ z → Good a z → Good (aims_of (roll-Pure x)) (value_of (roll-Pure x) locals)
   good_at x a z e f h = subst (λ b. Good b (value_of (roll-Pure x) locals)) (sym e) (subst (Good a) (sym f) h)
 
   good_null : (a : Aims) (z : ℤ) → is_zero z ≡ true → Good a z
-  good_null a (pos zero) h = tt
+  good_null a (pos zero) h = h
   good_null a (pos (suc n)) h = absurd (false≢true (sym (ne_eqb (suc n) 0 (λ e. omega (arith, e))) ∙ h))
-  good_null a (negsuc n) h = tt
+  good_null a (negsuc n) h = h
 
-  good_cell : (a : Aims) (c : ℕ) → Aimed p t a c → IsIntCell p c → Good a (pos (suc c))
-  good_cell a c h k = go (nat_lt c (length p.cells))
-    where
-      go : (b : Bool) → IfSome (if b then Some c else None) (λ d. Aimed p t a d × IsIntCell p d)
-      go true = (h, k)
-      go false = tt
+  good_cell : (a : Aims) (c : ℕ) → c < length p.cells → Aimed p t a c → IsIntCell p c → Good a (pos (suc c))
+  good_cell a c low h k = subst (λ b. OrNull (pos (suc c)) (λ d. Aimed p t a d × IsIntCell p d) (if b then Some c else None)) (sym (lt-ltb c (length p.cells) low)) (h, k)
 
   good_addr : (c : ℕ) → All (IsRow p.cells) (rows_of (roll-Pure (pure.Addr c))) → NamesInts p (roll-Pure (pure.Addr c)) → Good (aims_of (roll-Pure (pure.Addr c))) (value_of (roll-Pure (pure.Addr c)) locals)
   good_addr c rows ints =
@@ -288,7 +295,7 @@ module _ (p : Listing) (small : length p.cells ≤ MAX_CELLS) (t : ℕ) (locals 
       let l : c + 1 ≤ length p.cells = row.within in
       let a : Aims = record { constant = None; rows = record { first = c; len = 1 } ∷ []; locals = [] } in
       good_at (pure.Addr c) a (pos (suc c)) (aims_at (pure.Addr c)) (value_at locals (pure.Addr c) ∙ address_is c (omega (arith, l, small)) ∙ ap pos (let e : c + 1 ≡ suc c = omega arith in e))
-      (good_cell a c (inl (0, record { first = c; len = 1 }, refl, (omega arith, omega arith))) (int_cell p c (subst (λ k. IsSomeAnd (slice_get p.cells k) (λ cell. cell.pointer ≡ false)) (let e : c + 0 ≡ c = omega arith in e) (int 0 (omega arith)))))
+      (good_cell a c (omega (arith, l)) (inl (0, record { first = c; len = 1 }, refl, (omega arith, omega arith))) (int_cell p c (subst (λ k. IsSomeAnd (slice_get p.cells k) (λ cell. cell.pointer ≡ false)) (let e : c + 0 ≡ c = omega arith in e) (int 0 (omega arith)))))
 
   good_elem : (first len : ℕ) (x : Pure) (n : ℕ) → value_of x locals ≡ pos n → n < len → ((z : ℤ) → (aims_of x).constant ≡ Some z → pos n ≡ z) → All (IsRow p.cells) (rows_of (roll-Pure (pure.AddrElem first len x))) → NamesInts p (roll-Pure (pure.AddrElem first len x)) → Good (aims_of (roll-Pure (pure.AddrElem first len x))) (value_of (roll-Pure (pure.AddrElem first len x)) locals)
   good_elem first len x n v l number rows ints =
@@ -298,7 +305,7 @@ module _ (p : Listing) (small : length p.cells ≤ MAX_CELLS) (t : ℕ) (locals 
       let w : first + len ≤ length p.cells = row.within in
       let a : Aims = record { constant = None; rows = element_row first len (aims_of x).constant ∷ (aims_of x).rows; locals = (aims_of x).locals } in
       good_at (pure.AddrElem first len x) a (pos (suc (first + n))) (aims_at (pure.AddrElem first len x)) (value_at locals (pure.AddrElem first len x) ∙ ap (λ i. int_wrapping_add w32 (address first) i) v ∙ element_is first n (omega (arith, w, l, small)))
-      (good_cell a (first + n) (inl (0, element_row first len (aims_of x).constant, refl, element_named first len n (aims_of x).constant l number)) (int_cell p (first + n) (int n l)))
+      (good_cell a (first + n) (omega (arith, w, l)) (inl (0, element_row first len (aims_of x).constant, refl, element_named first len n (aims_of x).constant l number)) (int_cell p (first + n) (int n l)))
 
   module _ (pointers : ℕ → Bool) (known : (l : ℕ) → pointers l ≡ true → Points p (local t l) (slice_index_or locals l (pos 0))) where
     abbrev Pointing : Pure → Type 0
@@ -311,7 +318,7 @@ module _ (p : Listing) (small : length p.cells ≤ MAX_CELLS) (t : ℕ) (locals 
     at_local m kind rows ints checks =
         let a : Aims = record { constant = None; rows = []; locals = m ∷ [] } in
         good_at (pure.Local m) a (slice_index_or locals m (pos 0)) (aims_at (pure.Local m)) (value_at locals (pure.Local m))
-        (some_then (λ c. MayName p (local t m) c × IsIntCell p c) (λ d. Aimed p t a d × IsIntCell p d) (pointee (slice_index_or locals m (pos 0)) (length p.cells)) (known m (kind_at (pure.Local m) kind)) (λ d q. (inr (0, m, refl, q.0), q.1)))
+        (some_then (λ c. MayName p (local t m) c × IsIntCell p c) (λ d. Aimed p t a d × IsIntCell p d) (slice_index_or locals m (pos 0)) (length p.cells) (known m (kind_at (pure.Local m) kind)) (λ d q. (inr (0, m, refl, q.0), q.1)))
 
     at_elem : (first len : ℕ) (x : Pure) → Pointing (roll-Pure (pure.AddrElem first len x))
     at_elem first len x kind rows ints checks =
@@ -348,7 +355,7 @@ module _ (p : Listing) (small : length p.cells ≤ MAX_CELLS) (t : ℕ) (locals 
         whole = joined (joined (aims_of c) (aims_of x)) (aims_of y)
 
         more : (a : Aims) (z : ℤ) → ((d : ℕ) → Aimed p t a d → Aimed p t whole d) → Good a z → Good whole z
-        more a z f h = some_then (λ d. Aimed p t a d × IsIntCell p d) (λ d. Aimed p t whole d × IsIntCell p d) (pointee z (length p.cells)) h (λ d q. (f d q.0, q.1))
+        more a z f h = some_then (λ d. Aimed p t a d × IsIntCell p d) (λ d. Aimed p t whole d × IsIntCell p d) z (length p.cells) h (λ d q. (f d q.0, q.1))
 
         go : (b : Bool) → is_zero (value_of c locals) ≡ b → Good (aims_of (roll-Pure layer)) (value_of (roll-Pure layer) locals)
         go true e = good_at layer whole (value_of y locals) (aims_at layer) (value true e) (more (aims_of y) (value_of y locals) (λ d q. aimed_right p t (joined (aims_of c) (aims_of x)) (aims_of y) d q) (hy kinds.1 two_rows.1 two_ints.1 two_checks.1))
@@ -369,7 +376,7 @@ module _ (p : Listing) (small : length p.cells ≤ MAX_CELLS) (t : ℕ) (locals 
 
     -- a pointer's value, where its checks hold
     pub value_points : (e : Pure) → IsTrue (kinds_of pointers e).pointer → All (IsRow p.cells) (rows_of e) → NamesInts p e → All (Holds locals) (checks_of e) → Points p (expr t e) (value_of e locals)
-    value_points e kind rows ints checks = some_then (λ d. Aimed p t (aims_of e) d × IsIntCell p d) (λ c. MayName p (expr t e) c × IsIntCell p c) (pointee (value_of e locals) (length p.cells)) (pointing e kind rows ints checks) (λ d q. (aimed_names p t e d q.0, q.1))
+    value_points e kind rows ints checks = some_then (λ d. Aimed p t (aims_of e) d × IsIntCell p d) (λ c. MayName p (expr t e) c × IsIntCell p c) (value_of e locals) (length p.cells) (pointing e kind rows ints checks) (λ d q. (aimed_names p t e d q.0, q.1))
 
 -- ---- start values
 
@@ -428,4 +435,4 @@ module _ (p : Listing) (small : length p.cells ≤ MAX_CELLS) where
 
   -- what a pointer cell has at the start
   pub start_points : (e : Pure) → (start_kind e).fits ≡ true → IsTrue (kinds_of (λ l. false) e).pointer → All (IsRow p.cells) (rows_of e) → NamesInts p e → Points p (expr 0 e) (value_of e [])
-  start_points e fits kind rows ints = some_then (λ d. Aimed p 0 (aims_of e) d × IsIntCell p d) (λ c. MayName p (expr 0 e) c × IsIntCell p c) (pointee (value_of e []) (length p.cells)) (starting e fits kind rows ints) (λ d q. (aimed_names p 0 e d q.0, q.1))
+  start_points e fits kind rows ints = some_then (λ d. Aimed p 0 (aims_of e) d × IsIntCell p d) (λ c. MayName p (expr 0 e) c × IsIntCell p c) (value_of e []) (length p.cells) (starting e fits kind rows ints) (λ d q. (aimed_names p 0 e d q.0, q.1))

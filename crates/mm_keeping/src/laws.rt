@@ -1,16 +1,25 @@
 //! The laws of what a program's text says of its runs.
 
-ghost use Rattle.std.specs.Prelude.{◌≡◌, ◌≢◌, ℕ, ◌<◌, List, true, Some};
+ghost use Rattle.std.specs.Prelude.{◌≡◌, ◌≢◌, ℕ, ◌<◌, List, false, true, None, Some, length};
+ghost use Rattle.std.specs.List.{All, Contains};
 ghost use Rattle.mm_goto.specs.Bounds.{Bounding};
 ghost use Rattle.mm_goto.specs.declared.model.Model.{Model};
+ghost use Rattle.mm_goto.specs.declared.program.Instr.{Instr};
+ghost use Rattle.mm_goto.specs.declared.program.Target.{Target};
 ghost use Rattle.mm_goto.specs.declared.spot.Spot.{Spot};
+ghost use Rattle.mm_goto.specs.Checks.{targets};
 ghost use Rattle.mm_goto.specs.Flow.{IsSuccessor};
 ghost use Rattle.mm_goto.specs.Listing.{Listing};
 ghost use Rattle.mm_goto.specs.Sites.{Is, is_site, Names, Po, Undrained, MustBefore};
-ghost use Rattle.mm_goto.specs.Sourcelike.{IsSourcelike};
+ghost use Rattle.mm_goto.specs.PointsTo.{instr_at};
+ghost use Rattle.mm_goto.specs.Sourcelike.{IsSourcelike, wants};
 ghost use Rattle.mm_goto.specs.Valid.{IsValid, code_of};
+ghost use Rattle.mm_goto.specs.Value.{is_zero, value_of};
 ghost use Rattle.mm_sched.specs.declared.entry.Entry.{Entry};
 ghost use Rattle.mm_sched.specs.declared.entry.Rules.TheVariants.{Buffered};
+ghost use Rattle.mm_sched.specs.Event.{cell_of};
+ghost use Rattle.mm_sched.specs.Runs.{run};
+ghost use Rattle.mm_sched.specs.State.{State, initial, frame_of};
 ghost use Rattle.mm_runkeys.specs.declared.graph.EdgeKind.TheVariants.{Program};
 ghost use Rattle.mm_runkeys.specs.Keys.{drains, writes};
 ghost use Rattle.mm_rungraph.specs.Edges.{by, IsIssued, IsEdge};
@@ -54,4 +63,18 @@ pub fn what_must_be_before_comes_before()
     ensures flushed { (m : Model) (bound : Bounding) (p : Listing) (es : List Entry) (run : Trace (Buffered m bound) p es) →
         IsSourcelike p → (a b f : ℕ) (s t : Spot) → MustBefore p s t → Is p t (λ it. is_site it ≡ true) →
         Executes p run.events a s → Executes p run.events b t → IsIssued (layout_of m bound p) run.events a f → f < b }
+{}
+
+/// Where a run with store buffers has come to and nothing has failed, each check holds that the instruction wants at which a thread
+/// stands: a divisor is not 0, an index is in range, a pointer that is followed is not null. So each target of the instruction has a
+/// cell, which the access may name.
+pub fn a_guarded_instruction_finds_its_checks()
+    ensures checks { (m : Model) (bound : Bounding) (p : Listing) (es : List Entry) (last : State) → IsSourcelike p →
+        run (Buffered m bound) p (initial p) es ≡ Some last → last.verdict ≡ None → (t : ℕ) (i : Instr) →
+        instr_at p t (frame_of last t).place ≡ Some i → All (λ check. is_zero (value_of check (frame_of last t).locals) ≡ false) (wants i) }
+    ensures cells { (m : Model) (bound : Bounding) (p : Listing) (es : List Entry) (last : State) → IsSourcelike p →
+        run (Buffered m bound) p (initial p) es ≡ Some last → last.verdict ≡ None → (t : ℕ) (i : Instr) →
+        instr_at p t (frame_of last t).place ≡ Some i → (to : Target) → Contains (targets i) to →
+        (c : ℕ) × (c < length p.cells) × (cell_of (length p.cells) (frame_of last t).locals to ≡ Some c)
+        × Names p (record { thread = t; index = (frame_of last t).place }) c }
 {}
