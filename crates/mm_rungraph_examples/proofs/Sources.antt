@@ -19,6 +19,7 @@ use Rattle.mm_sched.specs.Sections.{HasNoSection}
 use Rattle.mm_sourcelike.proofs.Guarded.{no_section}
 use Rattle.mm_sourcelike.proofs.Law.{flattened_valid}
 use Rattle.mm_sourcelike.proofs.Texts.{text_is_grammatical}
+use Rattle.mm_sourcelike.proofs.Whole.{source_like}
 use Rattle.mm_rungraph_examples.specs.Flattening.{FlattensWell}
 
 by_index : {X : Type 0} (P : X → Type 0) (xs : List X) → ((k : ℕ) (x : X) → slice_get xs k ≡ Some x → P x) → AllByRecursion P xs
@@ -36,4 +37,4 @@ tree_of text tokens read tree same cut h = let there : Parses Source text tokens
 pub flattens_well : (text : List ℕ) (tree : Tree) → IsUtf8 text → length text < 2 ^ 32 → IsTreeOf Source text tree → IsAccepted Source tree → FlattensWell tree
 flattens_well text tree utf8 small read sense = λ none.
     let g = text_is_grammatical Source text tree utf8 small read in
-    (flattened_valid Source tree g.ints g.scoped sense none, no_sections (program_of Source tree) (no_section tree g.ints g.scoped sense none))
+    (flattened_valid Source tree g.ints g.scoped sense none, no_sections (program_of Source tree) (no_section tree g.ints g.scoped sense none), source_like tree g sense none)

@@ -1,8 +1,10 @@
 //! A case: a line with its title, a line with the machine, a source, the line `%%`, and a schedule.
 ghost use Rattle.std.specs.Prelude.{◌≤◌, length, IfSome};
+ghost use Rattle.mm_goto.specs.Sourcelike.{IsSourcelike};
 ghost use Rattle.mm_sched.specs.ScheduleText.{entries_of};
 ghost use Rattle.mm_sched.specs.Sections.{HasNoSection};
 
+use crate::carrying::show_carried;
 use crate::program::program_of;
 use crate::show::show_graph;
 use mm_goto::{Bound, Model, Program};
@@ -11,12 +13,20 @@ use mm_sched::{Schedule, read_schedule};
 use std::alloc::Global;
 use std::io;
 
-/// On which machine a case runs, and whether each node of its graph is shown.
+/// What is shown of a run: its graph with each node, how many nodes and edges it has, or that it is carried to partial buffers.
+#[derive(Clone, Copy, Drop)]
+enum View {
+    Nodes,
+    Counts,
+    Carried,
+}
+
+/// On which machine a case runs, and what is shown of it.
 #[derive(Drop)]
 struct Machine {
     model: Model,
     bound: Bound,
-    whole: bool,
+    view: View,
 }
 
 fn model_of(word: &str) -> Option<Model> {
@@ -43,12 +53,17 @@ fn machine_of(alloc: Global, line: &str) -> Option<Machine> {
         [model, bound] => Some(Machine {
             model: model_of(model)?,
             bound: bound_of(bound)?,
-            whole: true,
+            view: View::Nodes,
         }),
         [model, bound, "counts"] => Some(Machine {
             model: model_of(model)?,
             bound: bound_of(bound)?,
-            whole: false,
+            view: View::Counts,
+        }),
+        [model, bound, "carried"] => Some(Machine {
+            model: model_of(model)?,
+            bound: bound_of(bound)?,
+            view: View::Carried,
         }),
         _ => None,
     }
@@ -72,7 +87,8 @@ fn schedule_of(alloc: Global, text: &str) -> Option<Schedule>
 
 /// The goto program of the text, where it is a source.
 fn source_of(alloc: Global, text: &str) -> Option<Program>
-    ensures { IfSome result HasNoSection }
+    ensures sections { IfSome result HasNoSection }
+    ensures source { IfSome result IsSourcelike }
 {
     if text.len() <= 16_777_216 {
         program_of(alloc, text)
@@ -88,10 +104,17 @@ fn show_run<R: Print + AllocGlobal>(
     schedule: &Schedule,
 ) -> io::Result<()>
     requires sections { HasNoSection program.now }
+    requires source { IsSourcelike program.now }
     requires few { length (entries_of schedule.now) ≤ 10000000 }
 {
     match run_graph(rt.alloc(), program, machine.model, machine.bound, schedule) {
-        Ok(graph) => show_graph(rt, &graph, machine.whole),
+        Ok(graph) => match machine.view {
+            View::Nodes => show_graph(rt, &graph, true),
+            View::Counts => show_graph(rt, &graph, false),
+            View::Carried => {
+                show_carried(rt, program, machine.model, machine.bound, &graph, schedule)
+            }
+        },
         Err(RunFault::Stuck(k)) => println!(rt; "stuck at entry {k}"),
         Err(RunFault::NotFailing) => println!(rt; "not failing"),
         Err(RunFault::NoMemory) => println!(rt; "no memory"),

@@ -1,6 +1,7 @@
 //! Run graphs of small runs: of each case in the files, its program, machine and schedule, the graph as text.
 #![tactic(auto)]
 
+mod carrying;
 mod case;
 mod program;
 mod show;

@@ -1,5 +1,6 @@
 //! The goto program of a source.
 ghost use Rattle.std.specs.Prelude.{◌≤◌, length, IfSome};
+ghost use Rattle.mm_goto.specs.Sourcelike.{IsSourcelike};
 ghost use Rattle.mm_grammar.specs.Meaning.{IsTreeOf};
 ghost use Rattle.mm_sched.specs.Sections.{HasNoSection};
 ghost use Rattle.mm_tree.specs.declared.side.Side.TheVariants.{Source};
@@ -39,10 +40,11 @@ fn checked_of(alloc: Global, text: &str) -> Option<Checked>
     }
 }
 
-/// The goto program of a source, which has no atomic section.
+/// The goto program of a source.
 pub fn program_of(alloc: Global, text: &str) -> Option<Program>
     requires { length text.now ≤ 16777216 }
-    ensures { IfSome result HasNoSection }
+    ensures sections { IfSome result HasNoSection }
+    ensures source { IfSome result IsSourcelike }
 {
     let checked = checked_of(alloc, text)?;
     match flatten(alloc, &checked.tree, Side::Source) {

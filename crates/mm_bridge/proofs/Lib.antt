@@ -1,0 +1,13 @@
+pub mod Suiting
+pub mod Showing
+pub mod Later
+pub mod Quiet
+pub mod Meeting
+pub mod Communicating
+pub mod Between
+pub mod Passing
+pub mod Paths
+pub mod WaysBack
+pub mod Delayed
+pub mod Cycles
+pub mod Examples
