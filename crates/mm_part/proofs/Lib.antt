@@ -1,2 +1,2 @@
-mod Failing
+pub mod Failing
 mod Spreading
