@@ -1,0 +1,4 @@
+pub mod Mirroring
+pub mod Calling
+pub mod Flushing
+pub mod Parts
